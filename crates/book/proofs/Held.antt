@@ -143,13 +143,6 @@ within-without s x (z ∷ xs) p =
     elim (same-transition z x) as (λ b. all-within s (cond b xs (z ∷ without same-transition x xs)) ≡ true)
     [ true ↦ ps .1 | false ↦ and-from _ _ (ps .0) (within-without s x xs (ps .1)) ]
 
--- what the derived `==` says of two transitions
-pub same-transition-true : (a b : Transition) → a .source ≡ b .source → a .action ≡ b .action → a .target ≡ b .target → a .required ≡ b .required → a .excluded ≡ b .excluded → same-transition a b ≡ true
-same-transition-true a b p q r s t = grind (arith, tells)
-
-pub same-transition-false : (a b : Transition) → ((a .source ≡ b .source) → (a .action ≡ b .action) → (a .target ≡ b .target) → (a .required ≡ b .required) → (a .excluded ≡ b .excluded) → ⊥) → same-transition a b ≡ false
-same-transition-false a b h = grind (arith, tells)
-
 -- what the answer r of `place_of` on the list ys, which is xs, says of xs
 module _ (t : Transition) {xs ys : List Transition} {r : ℕ} (same : ys ≡ xs) (found : r ≡ place-of same-transition t ys) where
   pub seen-at : r ≡ place-of same-transition t xs
@@ -166,16 +159,3 @@ module _ (t : Transition) {xs ys : List Transition} {r : ℕ} (same : ys ≡ xs)
 
   pub seen-without : r < length xs → without same-transition t xs ≡ removed xs r
   seen-without h = let e = seen-at in without-place same-transition t xs (omega arith) ∙ ap (removed xs) (sym e)
-
-transition-from-fields : (a b : Transition) → a .source ≡ b .source → a .action ≡ b .action → a .target ≡ b .target → a .required ≡ b .required → a .excluded ≡ b .excluded → a ≡ b
-transition-from-fields a b p q r s t =
-    ap (λ x. record { source = x; action = a .action; target = a .target; required = a .required; excluded = a .excluded }) p
-    ∙ ap (λ x. record { source = b .source; action = x; target = a .target; required = a .required; excluded = a .excluded }) q
-    ∙ ap (λ x. record { source = b .source; action = b .action; target = x; required = a .required; excluded = a .excluded }) r
-    ∙ ap (λ x. record { source = b .source; action = b .action; target = b .target; required = x; excluded = a .excluded }) s
-    ∙ ap (λ x. record { source = b .source; action = b .action; target = b .target; required = b .required; excluded = x }) t
-
--- the test of two transitions tells whether they are the same
-pub same-transition-is : (a b : Transition) → same-transition a b ≡ true → a ≡ b
-same-transition-is a b h =
-    transition-from-fields a b (grind (arith, tells)) (grind (arith, tells)) (grind (arith, tells)) (grind (arith, tells)) (grind (arith, tells))

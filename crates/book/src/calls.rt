@@ -24,12 +24,19 @@ fn holds_configuration(products: &[u16], configuration: u16) -> bool
     false
 }
 
+// Whether two transitions are equal in all five fields.
+fn same(a: &Transition, b: &Transition) -> bool
+    ensures { λ r. ⌜ r ≡ same-transition (now (a .entry)) (now (b .entry)) ⌝ }
+{
+    *a == *b
+}
+
 // The place of an equal transition, or the length where there is none.
 fn place_of(transitions: &[Transition], transition: Transition) -> usize
     ensures { λ r. ⌜ r ≡ place-of same-transition transition (now (transitions .entry)) ⌝ }
 {
     for (i, t) in transitions.iter().enumerate() {
-        if *t == transition {
+        if same(t, &transition) {
             return i;
         }
     }
