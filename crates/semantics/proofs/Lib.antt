@@ -1,0 +1,4 @@
+pub mod Projection
+pub mod Monotone
+pub mod Iteration
+pub mod Extension

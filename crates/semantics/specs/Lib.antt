@@ -1,0 +1,5 @@
+pub mod Plain
+pub mod Meaning
+pub mod Entries
+pub mod Laws
+pub mod EntryLaws
