@@ -5,3 +5,6 @@ pub mod Extension
 pub mod Finite
 pub mod Rows
 pub mod RowRules
+pub mod Alone
+pub mod Decide
+pub mod Fixed

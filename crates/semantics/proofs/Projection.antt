@@ -10,10 +10,10 @@ use Rattle.semantics.specs.Plain.{Plain, System, States, Env, put, Holds}
 use Rattle.semantics.specs.Meaning.{Pairs, Holds-for, Means, Within, Same, satisfies, system-of, projection, translated}
 use Rattle.families.proofs.Tests.{at-itself, but-at, only-at}
 
-abbrev Agree : Family → ℕ → Env Pairs → Env States → Type 0
+abbrev pub Agree : Family → ℕ → Env Pairs → Env States → Type 0
 Agree F p η ε = (v t : ℕ) → t < F .states → T (η v t p) ↔ T (ε v t)
 
-agree-put : (F : Family) (p : ℕ) (η : Env Pairs) (ε : Env States) → Agree F p η ε → (v : ℕ) (V : Pairs) (U : States)
+pub agree-put : (F : Family) (p : ℕ) (η : Env Pairs) (ε : Env States) → Agree F p η ε → (v : ℕ) (V : Pairs) (U : States)
     → ((t : ℕ) → t < F .states → T (V t p) ↔ T (U t)) → Agree F p (put η v V) (put ε v U)
 agree-put F p η ε h v V U k w t t< =
     elim (eqb w v) as (λ e. T (cond e V (η w) t p) ↔ T (cond e U (ε w) t)) [ true ↦ k t t< | false ↦ h w t t< ]
