@@ -11,7 +11,7 @@ use Rattle.families.specs.Families.{Family, Meets, Owns, config}
 use Rattle.families.specs.declared.Transition.{Transition}
 use Rattle.formulas.specs.Trees.{Expression, Formula, Odd, occurs, proper}
 use Rattle.semantics.specs.Plain.{Plain, System, States, Env, put, Holds}
-use Rattle.semantics.specs.Meaning.{Pairs, satisfies, system-of, translated}
+use Rattle.semantics.specs.Meaning.{Pairs, Means, satisfies, system-of, translated}
 use Rattle.semantics.specs.Laws.{Decidable}
 use Rattle.families.proofs.Tests.{or-left, or-right, or-split, and-both, and-split, not-iff, twice, eq→eqb}
 use Rattle.semantics.proofs.Finite.{every, every-iff, tabulate, at, tabulated, some, some-iff, keep, kept, iterate, iterate-keeps, Sub, rests}
@@ -227,10 +227,11 @@ module _ (n : ℕ) (ts : List Transition) (c : ℕ) where
 abbrev pub decide : Family → Formula → Env Pairs → Pairs
 decide F φ η s p = at (eval (F .states) (own (config F p) (F .transitions)) (config F p) φ (λ v t. η v t p)) s
 
+pub decided : (F : Family) (φ : Formula) → T (proper φ) → (η : Env Pairs) → Means F (decide F φ η) φ η
+decided F φ ok η s p s< p< =
+    Iff·trans (right (F .states) (F .transitions) (config F p) φ ok (λ v t. η v t p) s s<)
+        (Iff·symm (projects F φ p p< η (λ v t. η v t p) (λ v t _. (λ x. x, λ x. x)) s s<))
+
 -- So every proper formula is decidable.
 pub decidable : Decidable
-decidable F φ ok η =
-    ( decide F φ η
-    , λ s p s< p<.
-        Iff·trans (right (F .states) (F .transitions) (config F p) φ ok (λ v t. η v t p) s s<)
-            (Iff·symm (projects F φ p p< η (λ v t. η v t p) (λ v t _. (λ x. x, λ x. x)) s s<)) )
+decidable F φ ok η = (decide F φ η, decided F φ ok η)

@@ -8,3 +8,7 @@ pub mod RowRules
 pub mod Alone
 pub mod Decide
 pub mod Fixed
+pub mod Rounds
+pub mod Spread
+pub mod Entries
+pub mod Examples

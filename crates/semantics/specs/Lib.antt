@@ -3,3 +3,4 @@ pub mod Meaning
 pub mod Entries
 pub mod Laws
 pub mod EntryLaws
+pub mod Examples
