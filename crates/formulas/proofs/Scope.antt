@@ -1,7 +1,7 @@
 -- Occurrences of a variable in the formula of an entry are ways down in the table. So where no variable is an odd number of negations below
 -- its fixpoint the formulas are proper, and where each has a fixpoint they are closed.
 use Prim.Native.Nat.{ℕ, zero, suc}
-use mathlib.Core.Bool.{Bool, not}
+use mathlib.Core.Bool.{not}
 use mathlib.Core.Logic.{inl, inr}
 use mathlib.Core.Path.{_≡_, refl, sym, subst, ap, _∙_}
 use mathlib.Core.List.{List}
@@ -19,7 +19,7 @@ module _ (es : List Expr) (ns : List Node) where
   abbrev Found : ℕ → Parity → ℕ → Type 0
   Found v k n = (m : ℕ) × Way ns v m k n × (getD ns m nd.False ≡ nd.Variable v)
 
-  -- One step further up, at an entry that is x.
+  -- One entry further up, at an entry that is x.
   up : (v : ℕ) (k j : Parity) (n c : ℕ) (x : Node) → getD ns n nd.False ≡ x → Names c x → ¬ Binds v x → k ≡ turned x j → Found v j c → Found v k n
   up v k j n c x e nc nb t f =
       ( f .0

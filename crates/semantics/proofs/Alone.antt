@@ -12,7 +12,7 @@ use Rattle.semantics.proofs.Projection.{projects, agree-put}
 use Rattle.semantics.proofs.Monotone.{grows-with}
 
 module _ (n : ℕ) (transitions : List Transition) (c : ℕ) where
-  abbrev alone : Family
+  abbrev pub alone : Family
   alone = record { states = n; products = c ∷ []; transitions = transitions }
 
   -- Translations grow with a variable that is under no odd number of negations.

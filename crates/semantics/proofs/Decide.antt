@@ -1,17 +1,18 @@
 -- A procedure that says where a proper formula holds of one configuration, proved right once: the part of a fixpoint is iterated as often as
 -- there are states.
-use Prim.Native.Nat.{ℕ, zero, suc, _<_}
+use Prim.Native.Nat.{ℕ, _<_}
 use mathlib.Core.Bool.{Bool, true, false, cond, not, _&&_, _||_}
-use mathlib.Core.Logic.{_↔_, _⊎_, inl, inr, Iff·trans, Iff·symm}
+use mathlib.Core.Logic.{_↔_, inl, inr, Iff·trans, Iff·symm}
 use mathlib.Core.Path.{_≡_, refl, sym, subst}
 use mathlib.Core.List.{List}
 use lib.Dec.{T, eqb, eqb→eq, ltb, ltb→lt, lt→ltb}
 use Rattle.families.specs.Bits.{bit}
 use Rattle.families.specs.Families.{Family, Meets, Owns, config}
 use Rattle.families.specs.declared.Transition.{Transition}
-use Rattle.formulas.specs.Trees.{Expression, Formula, Odd, occurs, proper}
+use Rattle.formulas.specs.Trees.{Formula, Odd, occurs, proper}
 use Rattle.semantics.specs.Plain.{Plain, System, States, Env, put, Holds}
-use Rattle.semantics.specs.Meaning.{Pairs, Means, satisfies, system-of, translated}
+use Rattle.semantics.specs.Satisfies.{satisfies}
+use Rattle.semantics.specs.Meaning.{Pairs, Means, system-of, translated}
 use Rattle.semantics.specs.Laws.{Decidable}
 use Rattle.families.proofs.Tests.{or-left, or-right, or-split, and-both, and-split, not-iff, twice, eq→eqb}
 use Rattle.semantics.proofs.Finite.{every, every-iff, tabulate, at, tabulated, some, some-iff, keep, kept, iterate, iterate-keeps, Sub, rests}

@@ -2,27 +2,23 @@
 use Prim.Native.Nat.{ℕ, suc, _<_}
 use mathlib.Core.Bool.{false}
 use mathlib.Core.Logic.{_↔_, Iff·trans, Iff·symm}
-use mathlib.Core.Path.{_≡_, refl, sym, subst}
+use mathlib.Core.Path.{sym, subst}
 use mathlib.Core.List.{List}
 use native.Mathlib.Omega.{arith}
-use lib.Dec.{T}
-use Rattle.families.specs.Families.{Family, Owns, count, config}
+use lib.Dec.{T, lit<}
+use Rattle.families.specs.Families.{Family, config}
 use Rattle.families.specs.declared.Transition.{Transition}
-use Rattle.formulas.specs.Trees.{Formula}
 use Rattle.formulas.specs.Tables.{formula-at}
-use Rattle.formulas.specs.declared.Expr.{Expr}
-use Rattle.formulas.specs.declared.Node.{Node}
 use Rattle.semantics.specs.Plain.{States, Env, Holds, Plain-means}
-use Rattle.semantics.specs.Meaning.{Pairs, Means, system-of, projection, translated}
+use Rattle.semantics.specs.Meaning.{Pairs, Means, system-of, translated}
 use Rattle.semantics.specs.Entries.{no-pairs, no-states, last}
-use Rattle.semantics.specs.Laws.{Like}
-use Rattle.semantics.specs.EntryLaws.{Balanced-proper, A-filling, One-filling, One-plain-filling, Columns, Entries-hold, Closed-entries, Extensional-filling, Extensional-entries, Columns-alike}
+use Rattle.semantics.specs.EntryLaws.{Balanced-proper, A-filling, One-filling, A-plain-filling, One-plain-filling, Columns, Entries-hold, Closed-entries, Extensional-filling, Extensional-entries, Columns-alike}
 use Rattle.formulas.proofs.Scope.{balanced-proper, bound-closed}
 use Rattle.semantics.proofs.Projection.{projects}
 use Rattle.semantics.proofs.Monotone.{needs-no-environment}
 use Rattle.semantics.proofs.Extension.{extensional, products-alike}
-use Rattle.semantics.proofs.Alone.{plain-same-env}
-use Rattle.semantics.proofs.Rows.{Meaning, Each, filled-map, filled-agree, filled-with, filled-unique, same-refl}
+use Rattle.semantics.proofs.Alone.{alone, plain-same-env}
+use Rattle.semantics.proofs.Rows.{Meaning, filled-map, filled-agree, filled-with, filled-unique, same-refl}
 use Rattle.semantics.proofs.Spread.{spread, spread-done}
 
 pub balanced : Balanced-proper
@@ -58,6 +54,13 @@ columns F es ns tree p p< rows η ε h n x =
     filled-map es ns tree (Means F) (by-plain (F .states) (F .transitions) (config F p)) (At F p)
         (λ V U φ ζ δ same k m s s<. Iff·trans (Iff·symm (same s s<)) (Iff·trans (m s p s< p<) (projects F φ p p< ζ δ k s s<)))
         rows (λ m s. rows m s p) (suc n) (suc n) n (omega arith) (omega arith) η ε h (λ m _ s _. (λ z. z, λ z. z)) x
+
+pub a-plain-filling : A-plain-filling
+a-plain-filling n xs c es ns tree ok ε k =
+    let F = alone n xs c in
+    let η : Env Pairs = λ v t p. ε v t in
+    let x = a-filling F es ns tree ok η k in
+    ((λ m s. x .0 m s 0), columns F es ns tree 0 (lit< tt) (x .0) η ε (λ v t _. (λ z. z, λ z. z)) k (x .1))
 
 pub entries-hold : Entries-hold
 entries-hold F es ns tree rows x n u s p s< p< =

@@ -1,14 +1,12 @@
--- The plain meaning takes a system's steps only by which there are; so what holds of a product depends on its options and own steps alone.
+-- The plain meaning takes a system's transitions only by which there are; so what holds of a product depends on its configuration and own
+-- transitions alone.
 use Prim.Native.Nat.{ℕ, _<_}
-use mathlib.Core.Bool.{Bool, true, false, cond}
-use mathlib.Core.Logic.{_↔_, _⊎_, inl, inr, Iff·not, Iff·trans, Iff·symm}
-use mathlib.Core.Path.{_≡_, refl, sym, subst}
-use lib.Dec.{T, eqb}
-use Rattle.families.specs.Families.{Family, Owns, count, config}
-use Rattle.formulas.specs.Trees.{Expression, Formula, Parity, Even, Odd, other, is-even, occurs, proper}
+use mathlib.Core.Logic.{_↔_, inl, inr, Iff·not, Iff·trans, Iff·symm}
+use mathlib.Core.Path.{sym, subst}
+use Rattle.families.specs.Families.{config}
 use Rattle.semantics.specs.Plain.{Plain, System, States, Env, put, Holds}
-use Rattle.semantics.specs.Meaning.{Pairs, Holds-for, Means, Within, Same, satisfies, system-of, projection, translated}
-use Rattle.semantics.specs.Laws.{Like, Alike, Extensional}
+use Rattle.semantics.specs.Meaning.{Holds-for, system-of, projection, translated}
+use Rattle.semantics.specs.Laws.{Alike, Extensional}
 use Rattle.semantics.proofs.Projection.{projects}
 
 module _ (L M : System) (there : (t : ℕ) → t < L .states → t < M .states) (back : (t : ℕ) → t < M .states → t < L .states)

@@ -1,10 +1,7 @@
 -- The meanings of fixpoints are fixed points.
-use Prim.Native.Nat.{ℕ, _<_}
-use mathlib.Core.Logic.{_↔_}
-use lib.Dec.{T}
-use Rattle.families.specs.Families.{Family, count}
+use Prim.Native.Nat.{_<_}
 use Rattle.formulas.specs.Trees.{Formula}
-use Rattle.semantics.specs.Plain.{Env, put}
+use Rattle.semantics.specs.Plain.{put}
 use Rattle.semantics.specs.Meaning.{Pairs, Means, Within}
 use Rattle.semantics.specs.Laws.{Fixed}
 use Rattle.semantics.proofs.Decide.{decidable}

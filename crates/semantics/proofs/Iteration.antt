@@ -1,14 +1,13 @@
 -- Iteration from nothing and from everything.
 use Prim.Native.Nat.{ℕ, zero, suc, _<_, _≤_}
-use mathlib.Core.Bool.{Bool, true, false, cond}
-use mathlib.Core.Logic.{_↔_}
-use mathlib.Core.Path.{_≡_, refl, sym, subst}
+use mathlib.Core.Bool.{true, false}
+use mathlib.Core.Path.{_≡_, sym, subst}
 use native.Mathlib.Omega.{arith}
-use lib.Dec.{T, eqb}
-use Rattle.families.specs.Families.{Family, Owns, count, config}
-use Rattle.formulas.specs.Trees.{Expression, Formula, Parity, Even, Odd, other, is-even, occurs, proper}
-use Rattle.semantics.specs.Plain.{Plain, System, States, Env, put, Holds}
-use Rattle.semantics.specs.Meaning.{Pairs, Holds-for, Means, Within, Same, satisfies, system-of, projection, translated}
+use lib.Dec.{T}
+use Rattle.families.specs.Families.{Family, count}
+use Rattle.formulas.specs.Trees.{Formula, Odd, occurs}
+use Rattle.semantics.specs.Plain.{Env, put}
+use Rattle.semantics.specs.Meaning.{Pairs, Holds-for, Means, Within}
 use Rattle.semantics.specs.Laws.{Iterates-up, Iterates-down}
 use Rattle.semantics.proofs.Monotone.{grows-with}
 
@@ -19,7 +18,7 @@ Closed F φ v η V = (t q : ℕ) → t < F .states → q < count F → Holds-for
 abbrev pub Backed : Family → Formula → ℕ → Env Pairs → Pairs → Type 0
 Backed F φ v η V = (t q : ℕ) → t < F .states → q < count F → T (V t q) → Holds-for F φ (put η v V) t q
 
--- A set that is within every set that the part maps into itself stays so after a step.
+-- A set that is within every set that the part maps into itself stays so after a round.
 abbrev pub Low : Family → Formula → ℕ → Env Pairs → Pairs → Type 0
 Low F φ v η V = (U : Pairs) → Closed F φ v η U → Within F V U
 
@@ -82,7 +81,7 @@ iterates-down F φ v none η V k start step same =
     high-all F φ v η (V k) (highs F φ v none η V k start step k k≤)
         (λ t q t< q< x. step k k≤ t q t< q< .0 (subst T (same t q t< q<) x))
 
--- A set within its image stays so after a step, and grows by it; the empty set is one. So a loop from nothing only grows.
+-- A set within its image stays so after a round, and grows by it; the empty set is one. So iteration from nothing only grows.
 pub backed-none : (F : Family) (φ : Formula) (v : ℕ) (η : Env Pairs) (V : Pairs)
     → ((t q : ℕ) → t < F .states → q < count F → V t q ≡ false) → Backed F φ v η V
 backed-none F φ v η V none t q t< q< x = absurd (subst T (none t q t< q<) x)

@@ -1,13 +1,13 @@
 -- The meaning grows with the variables that occur under an even number of negations, and shrinks with those under an odd number.
 use Prim.Native.Nat.{ℕ, _<_}
-use mathlib.Core.Bool.{Bool, true, false, cond, not, _&&_, _||_}
-use mathlib.Core.Logic.{_↔_, _⊎_, inl, inr}
-use mathlib.Core.Path.{_≡_, refl, sym, subst}
+use mathlib.Core.Bool.{Bool, true, false, cond, not, _&&_}
+use mathlib.Core.Logic.{inl, inr}
+use mathlib.Core.Path.{_≡_, subst}
 use lib.Dec.{T, eqb, eqb→eq, eqb-refl}
-use Rattle.families.specs.Families.{Family, Owns, count, config}
-use Rattle.formulas.specs.Trees.{Expression, Formula, Parity, Even, Odd, other, is-even, occurs, proper}
-use Rattle.semantics.specs.Plain.{Plain, System, States, Env, put, Holds}
-use Rattle.semantics.specs.Meaning.{Pairs, Holds-for, Means, Within, Same, satisfies, system-of, projection, translated}
+use Rattle.families.specs.Families.{Family, count}
+use Rattle.formulas.specs.Trees.{Formula, Parity, Even, Odd, occurs}
+use Rattle.semantics.specs.Plain.{Env, put}
+use Rattle.semantics.specs.Meaning.{Pairs, Holds-for, Within}
 use Rattle.semantics.specs.Laws.{Grows, Shrinks, Needs-no-environment}
 use Rattle.families.proofs.Tests.{or-left, or-right, and-both}
 

@@ -1,13 +1,14 @@
 -- The family's meaning at a product is the plain meaning of the translated formula in the product's own system.
 use Prim.Native.Nat.{ℕ, _<_}
-use mathlib.Core.Bool.{Bool, true, false, cond}
-use mathlib.Core.Logic.{_↔_, _⊎_, inl, inr, Iff·not}
-use mathlib.Core.Path.{_≡_, refl, sym, subst}
+use mathlib.Core.Bool.{true, false, cond}
+use mathlib.Core.Logic.{_↔_, inl, inr, Iff·not}
+use mathlib.Core.Path.{sym, subst}
 use lib.Dec.{T, eqb}
 use Rattle.families.specs.Families.{Family, Owns, count, config}
-use Rattle.formulas.specs.Trees.{Expression, Formula, Parity, Even, Odd, other, is-even, occurs, proper}
-use Rattle.semantics.specs.Plain.{Plain, System, States, Env, put, Holds}
-use Rattle.semantics.specs.Meaning.{Pairs, Holds-for, Means, Within, Same, satisfies, system-of, projection, translated}
+use Rattle.formulas.specs.Trees.{Formula}
+use Rattle.semantics.specs.Plain.{Plain, States, Env, put, Holds}
+use Rattle.semantics.specs.Satisfies.{satisfies}
+use Rattle.semantics.specs.Meaning.{Pairs, Holds-for, projection, translated}
 use Rattle.families.proofs.Tests.{at-itself, but-at, only-at}
 
 abbrev pub Agree : Family → ℕ → Env Pairs → Env States → Type 0

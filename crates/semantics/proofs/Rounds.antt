@@ -2,7 +2,7 @@
 -- greatest. A round that changes nothing has reached it, and every other round changes how many pairs there are.
 use Prim.Native.Nat.{ℕ, _<_}
 use mathlib.Core.Bool.{true, false}
-use mathlib.Core.Logic.{_↔_, _⊎_}
+use mathlib.Core.Logic.{_⊎_}
 use mathlib.Core.Path.{_≡_}
 use lib.Dec.{T}
 use Rattle.families.specs.Families.{Family, count}

@@ -1,17 +1,16 @@
 -- The row of an entry from the rows of its parts, case by case.
-use Prim.Native.Nat.{ℕ, zero, suc, _<_, _≤_}
-use mathlib.Core.Bool.{Bool, true, false, cond, not}
-use mathlib.Core.Logic.{_↔_, _⊎_, inl, inr, Iff·trans, Iff·symm, Iff·not}
-use mathlib.Core.Path.{_≡_, refl, sym, subst}
+use Prim.Native.Nat.{ℕ, _<_}
+use mathlib.Core.Logic.{_↔_, _⊎_, inl, inr, Iff·trans, Iff·not}
 use lib.Dec.{T}
 use Rattle.families.specs.Families.{Family, Owns, count, config}
-use Rattle.formulas.specs.Trees.{Expression, Formula, Parity, Even, Odd, other, is-even, occurs, proper}
-use Rattle.semantics.specs.Plain.{Plain, System, States, Env, put, Holds}
-use Rattle.semantics.specs.Meaning.{Pairs, Holds-for, Means, Within, Same, satisfies, system-of, projection, translated}
+use Rattle.formulas.specs.Trees.{Expression, Formula}
+use Rattle.semantics.specs.Plain.{Env, put}
+use Rattle.semantics.specs.Satisfies.{satisfies}
+use Rattle.semantics.specs.Meaning.{Pairs, Means, Same}
 use Rattle.semantics.proofs.Iteration.{Low, High, low-all, high-all}
 
 module _ (F : Family) where
-  -- Said of every pair of the book.
+  -- Said of every pair of the family.
   abbrev Everywhere : (ℕ → ℕ → Type 0) → Type 0
   Everywhere P = (t q : ℕ) → t < F .states → q < count F → P t q
 

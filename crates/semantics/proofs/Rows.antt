@@ -2,11 +2,11 @@
 -- only one way. Shown once for sets of any two kinds that are related, which may be one kind with itself.
 use Prim.Native.Nat.{ℕ, zero, suc, _<_}
 use mathlib.Core.Bool.{true, false, cond}
-use mathlib.Core.Logic.{_↔_, _⊎_, inl, inr, Iff·trans, Iff·symm}
-use mathlib.Core.Path.{_≡_, refl, sym, subst, ap, ap₂, _∙_}
+use mathlib.Core.Logic.{_↔_, inl, inr, Iff·trans, Iff·symm}
+use mathlib.Core.Path.{_≡_, refl, sym, subst}
 use mathlib.Core.List.{List}
 use native.Mathlib.Omega.{arith}
-use lib.Dec.{T, eqb}
+use lib.Dec.{eqb}
 use lib.ListN.{getD}
 use Rattle.families.specs.Families.{Family, count}
 use Rattle.formulas.specs.Trees.{Formula}
@@ -17,7 +17,7 @@ use Rattle.formulas.specs.declared.Node.the-variants as nd
 use Rattle.semantics.specs.Plain.{Env, put}
 use Rattle.semantics.specs.Meaning.{Pairs, Holds-for, Means, Same}
 use Rattle.semantics.specs.Entries.{Parts, Filled-to, Filled}
-use Rattle.formulas.proofs.Trees.{form-of, under-part, under-top}
+use Rattle.formulas.proofs.Trees.{form-of, under-le, under-part, under-top, parts-apart}
 use Rattle.semantics.proofs.Monotone.{grows}
 
 -- What it is for a set to be the meaning of a formula.
@@ -161,3 +161,22 @@ module _ (F : Family) (es : List Expr) (ns : List Node) (tree : Tree ns) where
       → Filled F es ns rows η n → Filled F es ns cols θ n → (m : ℕ) → Under ns n m → Same F (rows m) (cols m)
   filled-unique rows cols η θ n h x y =
       filled-agree es ns tree (Means F) (Means F) (Same F) (means-alike F) rows cols (suc n) n (omega arith) η θ h x y
+
+  -- A part keeps its rows filled while the rows of another part of the same entry are filled, and while rows above it are written.
+  pub filled-beside : (rows cols : ℕ → Pairs) (η : Env Pairs) (n c d : ℕ) → Names c (getD ns n nd.False) → Names d (getD ns n nd.False) → ¬ (c ≡ d)
+      → ((m : ℕ) → ¬ Under ns d m → Same F (rows m) (cols m)) → Filled F es ns rows η c → Filled F es ns cols η c
+  filled-beside rows cols η n c d nc md ne same =
+      filled-same rows cols η η c (λ w. same-refl F (η w)) (λ m u. same m (λ w. parts-apart ns tree n c d m nc md ne u w))
+
+  pub filled-below : (rows cols : ℕ → Pairs) (η : Env Pairs) (n c : ℕ) → c < n
+      → ((m : ℕ) → m < n → Same F (rows m) (cols m)) → Filled F es ns rows η c → Filled F es ns cols η c
+  filled-below rows cols η n c c< same =
+      filled-same rows cols η η c (λ w. same-refl F (η w)) (λ m u. same m (omega (arith, under-le ns tree c m u)))
+
+  -- The row of an entry that is known, from the formulas and rows of its parts.
+  pub fill-as : (rows : ℕ → Pairs) (η : Env Pairs) (n : ℕ) (x : Node) → getD ns n nd.False ≡ x
+      → Means F (rows n) (as-formula (expression-at es) (formula-at es ns) x) η → Parts (Filled F es ns rows) η (rows n) x → Filled F es ns rows η n
+  fill-as rows η n x e m p =
+      fill es ns tree (Means F) rows η n
+          (subst (λ (y : Node). Means F (rows n) (as-formula (expression-at es) (formula-at es ns) y) η) (sym e) m)
+          (subst (λ (y : Node). Parts (Filled F es ns rows) η (rows n) y) (sym e) p)

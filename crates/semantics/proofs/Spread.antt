@@ -2,14 +2,13 @@
 -- environments.
 use Prim.Native.Nat.{ℕ, zero, suc, _<_}
 use mathlib.Core.Bool.{Bool, true, false, cond}
-use mathlib.Core.Logic.{_↔_, inl, inr}
+use mathlib.Core.Logic.{inl, inr}
 use mathlib.Core.Path.{_≡_, refl, sym, subst, _∙_}
 use mathlib.Core.List.{List}
 use native.Mathlib.Omega.{arith}
 use lib.Dec.{T, eqb, eqb→eq, eqb-refl}
 use lib.ListN.{getD}
 use Rattle.families.specs.Families.{Family}
-use Rattle.formulas.specs.Trees.{Formula, proper}
 use Rattle.formulas.specs.Tables.{formula-at, Names, Under, itself, Apart, Tree, Balanced}
 use Rattle.formulas.specs.declared.Expr.{Expr}
 use Rattle.formulas.specs.declared.Node.{Node}

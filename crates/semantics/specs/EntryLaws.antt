@@ -30,6 +30,10 @@ One-filling = (F : Family) (es : List Expr) (ns : List Node) → Tree ns → (η
     → Filled F es ns rows η n → Filled F es ns cols η n → (m : ℕ) → Under ns n m → Same F (rows m) (cols m)
 
 -- By plain checking too.
+abbrev pub A-plain-filling : Type 0
+A-plain-filling = (n : ℕ) (xs : List Transition) (c : ℕ) (es : List Expr) (ns : List Node) → Tree ns → Balanced ns
+    → (ε : Env States) (k : ℕ) → (rows : ℕ → States) × Plain-filled (system-of n xs c) c es ns rows ε k
+
 abbrev pub One-plain-filling : Type 0
 One-plain-filling = (n : ℕ) (xs : List Transition) (c : ℕ) (es : List Expr) (ns : List Node) → Tree ns
     → (ε : Env States) (k : ℕ) (rows cols : ℕ → States)

@@ -1,23 +1,14 @@
 -- The feature μ-calculus over a family, and its translation to the μ-calculus for one product.
 use Prim.Native.Nat.{ℕ, _<_}
-use mathlib.Core.Bool.{Bool, true, false, cond, not, _&&_, _||_}
+use mathlib.Core.Bool.{Bool, cond}
 use mathlib.Core.Logic.{_↔_, _⊎_}
 use mathlib.Core.List.{List}
 use lib.Dec.{T}
-use Rattle.families.specs.Bits.{bit}
 use Rattle.families.specs.Families.{Family, Owns, count, config}
 use Rattle.families.specs.declared.Transition.{Transition}
-use Rattle.formulas.specs.Trees.{Expression, Formula}
+use Rattle.formulas.specs.Trees.{Formula}
+use Rattle.semantics.specs.Satisfies.{satisfies}
 use Rattle.semantics.specs.Plain.{Plain, System, Env, put}
-
--- Whether a configuration satisfies an expression.
-abbrev pub satisfies : ℕ → Expression → Bool
-satisfies c Expression.False = false
-satisfies c Expression.True = true
-satisfies c (Expression.Feature k) = bit c k
-satisfies c (Expression.Not e) = not (satisfies c e)
-satisfies c (Expression.Or d e) = satisfies c d || satisfies c e
-satisfies c (Expression.And d e) = satisfies c d && satisfies c e
 
 -- A set of pairs of a state and a product.
 abbrev pub Pairs : Type 0

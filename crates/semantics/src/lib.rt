@@ -3,7 +3,7 @@
 ghost use Rattle.formulas.specs.Trees.Formula.{Least, Greatest};
 ghost use Rattle.semantics.specs.Laws.{Projects, Grows, Shrinks, Needs-no-environment, Iterates-up, Iterates-down};
 ghost use Rattle.semantics.specs.Laws.{Extensional, Alike, Fixed, Decidable};
-ghost use Rattle.semantics.specs.EntryLaws.{Balanced-proper, A-filling, One-filling, One-plain-filling, Columns, Entries-hold, Closed-entries};
+ghost use Rattle.semantics.specs.EntryLaws.{Balanced-proper, A-filling, One-filling, A-plain-filling, One-plain-filling, Columns, Entries-hold, Closed-entries};
 ghost use Rattle.semantics.specs.EntryLaws.{Extensional-filling, Extensional-entries, Columns-alike};
 ghost use Rattle.semantics.specs.Examples.{Examples-hold};
 
@@ -59,7 +59,8 @@ pub fn fillings_hold()
     ensures proper { λ _. ⌜ Balanced-proper ⌝ }
     ensures some { λ _. ⌜ A-filling ⌝ }
     ensures one { λ _. ⌜ One-filling ⌝ }
-    ensures plain { λ _. ⌜ One-plain-filling ⌝ }
+    ensures some_plain { λ _. ⌜ A-plain-filling ⌝ }
+    ensures one_plain { λ _. ⌜ One-plain-filling ⌝ }
 {
 }
 
