@@ -16,11 +16,11 @@ use Rattle.formulas.specs.declared.Node.the-variants as nd
 
 module _ (es : List Expr) (ns : List Node) where
   -- A way down to a variable v.
-  abbrev Found : ℕ → Parity → ℕ → Type 0
+  abbrev pub Found : ℕ → Parity → ℕ → Type 0
   Found v k n = (m : ℕ) × Way ns v m k n × (getD ns m nd.False ≡ nd.Variable v)
 
   -- One entry further up, at an entry that is x.
-  up : (v : ℕ) (k j : Parity) (n c : ℕ) (x : Node) → getD ns n nd.False ≡ x → Names c x → ¬ Binds v x → k ≡ turned x j → Found v j c → Found v k n
+  pub up : (v : ℕ) (k j : Parity) (n c : ℕ) (x : Node) → getD ns n nd.False ≡ x → Names c x → ¬ Binds v x → k ≡ turned x j → Found v j c → Found v k n
   up v k j n c x e nc nb t f =
       ( f .0
       , down (subst (λ (y : Node). Names c y) (sym e) nc) (subst (λ (y : Node). ¬ Binds v y) (sym e) nb)

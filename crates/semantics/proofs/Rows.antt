@@ -10,7 +10,7 @@ use lib.Dec.{eqb}
 use lib.ListN.{getD}
 use Rattle.families.specs.Families.{Family, count}
 use Rattle.formulas.specs.Trees.{Formula}
-use Rattle.formulas.specs.Tables.{as-formula, expression-at, formula-at, Names, Under, itself, Tree}
+use Rattle.formulas.specs.Tables.{as-formula, expression-at, formula-at, Names, Binds, Under, itself, Tree}
 use Rattle.formulas.specs.declared.Expr.{Expr}
 use Rattle.formulas.specs.declared.Node.{Node}
 use Rattle.formulas.specs.declared.Node.the-variants as nd
@@ -32,38 +32,53 @@ pub each-put : {A B : Type 0} (R : A → B → Type 0) (η : Env A) (θ : Env B)
     → Each R η θ → R V W → Each R (put η v V) (put θ v W)
 each-put R η θ v V W h k w = elim (eqb w v) as (λ e. R (cond e V (η w)) (cond e W (θ w))) [ true ↦ k | false ↦ h w ]
 
--- From what is said of each part to what is said of the parts.
-parts-map : {A B : Type 0} (E : Env A → Env B → Type 0) (P : Env A → ℕ → Type 0) (Q : Env B → ℕ → Type 0)
-    (η : Env A) (θ : Env B) (V : A) (W : B) (e : Node) → E η θ → ((v : ℕ) → E (put η v V) (put θ v W))
+-- From what is said of each part to what is said of the parts, in environments that are related: those of the entry, or of a fixpoint's part.
+pub parts-map : {A B : Type 0} (E : Env A → Env B → Type 0) (P : Env A → ℕ → Type 0) (Q : Env B → ℕ → Type 0)
+    (η : Env A) (θ : Env B) (V : A) (W : B) (e : Node) → (((v : ℕ) → ¬ Binds v e) → E η θ) → ((v : ℕ) → Binds v e → E (put η v V) (put θ v W))
     → ((c : ℕ) → Names c e → (ζ : Env A) (ξ : Env B) → E ζ ξ → P ζ c → Q ξ c) → Parts P η V e → Parts Q θ W e
 parts-map E P Q η θ V W nd.False h k f x = x
 parts-map E P Q η θ V W nd.True h k f x = x
-parts-map E P Q η θ V W (nd.Not c) h k f x = f c refl η θ h x
-parts-map E P Q η θ V W (nd.Or c d) h k f x = (f c (inl refl) η θ h (x .0), f d (inr refl) η θ h (x .1))
-parts-map E P Q η θ V W (nd.And c d) h k f x = (f c (inl refl) η θ h (x .0), f d (inr refl) η θ h (x .1))
-parts-map E P Q η θ V W (nd.Diamond a i c) h k f x = f c refl η θ h x
-parts-map E P Q η θ V W (nd.Box a i c) h k f x = f c refl η θ h x
+parts-map E P Q η θ V W (nd.Not c) h k f x = f c refl η θ (h (λ v b. b)) x
+parts-map E P Q η θ V W (nd.Or c d) h k f x = (f c (inl refl) η θ (h (λ v b. b)) (x .0), f d (inr refl) η θ (h (λ v b. b)) (x .1))
+parts-map E P Q η θ V W (nd.And c d) h k f x = (f c (inl refl) η θ (h (λ v b. b)) (x .0), f d (inr refl) η θ (h (λ v b. b)) (x .1))
+parts-map E P Q η θ V W (nd.Diamond a i c) h k f x = f c refl η θ (h (λ v b. b)) x
+parts-map E P Q η θ V W (nd.Box a i c) h k f x = f c refl η θ (h (λ v b. b)) x
 parts-map E P Q η θ V W (nd.Variable v) h k f x = x
-parts-map E P Q η θ V W (nd.Least v c) h k f x = f c refl (put η v V) (put θ v W) (k v) x
-parts-map E P Q η θ V W (nd.Greatest v c) h k f x = f c refl (put η v V) (put θ v W) (k v) x
+parts-map E P Q η θ V W (nd.Least v c) h k f x = f c refl (put η v V) (put θ v W) (k v refl) x
+parts-map E P Q η θ V W (nd.Greatest v c) h k f x = f c refl (put η v V) (put θ v W) (k v refl) x
 
 -- From what is said of each part twice to what is concluded of any.
-parts-agree : {A B : Type 0} (E : Env A → Env B → Type 0) (P : Env A → ℕ → Type 0) (Q : Env B → ℕ → Type 0) (R : ℕ → Type 0)
-    (η : Env A) (θ : Env B) (V : A) (W : B) (e : Node) → E η θ → ((v : ℕ) → E (put η v V) (put θ v W))
+pub parts-agree : {A B : Type 0} (E : Env A → Env B → Type 0) (P : Env A → ℕ → Type 0) (Q : Env B → ℕ → Type 0) (R : ℕ → Type 0)
+    (η : Env A) (θ : Env B) (V : A) (W : B) (e : Node) → (((v : ℕ) → ¬ Binds v e) → E η θ) → ((v : ℕ) → Binds v e → E (put η v V) (put θ v W))
     → ((c : ℕ) → Names c e → (ζ : Env A) (ξ : Env B) → E ζ ξ → P ζ c → Q ξ c → R c)
     → Parts P η V e → Parts Q θ W e → (c : ℕ) → Names c e → R c
 parts-agree E P Q R η θ V W nd.False h k f x y c nc = absurd nc
 parts-agree E P Q R η θ V W nd.True h k f x y c nc = absurd nc
-parts-agree E P Q R η θ V W (nd.Not d) h k f x y c nc = subst R (sym nc) (f d refl η θ h x y)
+parts-agree E P Q R η θ V W (nd.Not d) h k f x y c nc = subst R (sym nc) (f d refl η θ (h (λ v b. b)) x y)
 parts-agree E P Q R η θ V W (nd.Or d g) h k f x y c nc =
-    elim nc [ inl e ↦ subst R (sym e) (f d (inl refl) η θ h (x .0) (y .0)) | inr e ↦ subst R (sym e) (f g (inr refl) η θ h (x .1) (y .1)) ]
+    elim nc [ inl e ↦ subst R (sym e) (f d (inl refl) η θ (h (λ v b. b)) (x .0) (y .0)) | inr e ↦ subst R (sym e) (f g (inr refl) η θ (h (λ v b. b)) (x .1) (y .1)) ]
 parts-agree E P Q R η θ V W (nd.And d g) h k f x y c nc =
-    elim nc [ inl e ↦ subst R (sym e) (f d (inl refl) η θ h (x .0) (y .0)) | inr e ↦ subst R (sym e) (f g (inr refl) η θ h (x .1) (y .1)) ]
-parts-agree E P Q R η θ V W (nd.Diamond a i d) h k f x y c nc = subst R (sym nc) (f d refl η θ h x y)
-parts-agree E P Q R η θ V W (nd.Box a i d) h k f x y c nc = subst R (sym nc) (f d refl η θ h x y)
+    elim nc [ inl e ↦ subst R (sym e) (f d (inl refl) η θ (h (λ v b. b)) (x .0) (y .0)) | inr e ↦ subst R (sym e) (f g (inr refl) η θ (h (λ v b. b)) (x .1) (y .1)) ]
+parts-agree E P Q R η θ V W (nd.Diamond a i d) h k f x y c nc = subst R (sym nc) (f d refl η θ (h (λ v b. b)) x y)
+parts-agree E P Q R η θ V W (nd.Box a i d) h k f x y c nc = subst R (sym nc) (f d refl η θ (h (λ v b. b)) x y)
 parts-agree E P Q R η θ V W (nd.Variable v) h k f x y c nc = absurd nc
-parts-agree E P Q R η θ V W (nd.Least v d) h k f x y c nc = subst R (sym nc) (f d refl (put η v V) (put θ v W) (k v) x y)
-parts-agree E P Q R η θ V W (nd.Greatest v d) h k f x y c nc = subst R (sym nc) (f d refl (put η v V) (put θ v W) (k v) x y)
+parts-agree E P Q R η θ V W (nd.Least v d) h k f x y c nc = subst R (sym nc) (f d refl (put η v V) (put θ v W) (k v refl) x y)
+parts-agree E P Q R η θ V W (nd.Greatest v d) h k f x y c nc = subst R (sym nc) (f d refl (put η v V) (put θ v W) (k v refl) x y)
+
+-- What holds of each part, in whichever of those environments it is read, holds of the parts.
+pub parts-all : {A : Type 0} (E : Env A → Type 0) (Q : Env A → ℕ → Type 0) (η : Env A) (V : A) (e : Node)
+    → (((v : ℕ) → ¬ Binds v e) → E η) → ((v : ℕ) → Binds v e → E (put η v V))
+    → ((c : ℕ) → Names c e → (ζ : Env A) → E ζ → Q ζ c) → Parts Q η V e
+parts-all E Q η V nd.False h k f = tt
+parts-all E Q η V nd.True h k f = tt
+parts-all E Q η V (nd.Not c) h k f = f c refl η (h (λ v b. b))
+parts-all E Q η V (nd.Or c d) h k f = (f c (inl refl) η (h (λ v b. b)), f d (inr refl) η (h (λ v b. b)))
+parts-all E Q η V (nd.And c d) h k f = (f c (inl refl) η (h (λ v b. b)), f d (inr refl) η (h (λ v b. b)))
+parts-all E Q η V (nd.Diamond a i c) h k f = f c refl η (h (λ v b. b))
+parts-all E Q η V (nd.Box a i c) h k f = f c refl η (h (λ v b. b))
+parts-all E Q η V (nd.Variable v) h k f = tt
+parts-all E Q η V (nd.Least v c) h k f = f c refl (put η v V) (k v refl)
+parts-all E Q η V (nd.Greatest v c) h k f = f c refl (put η v V) (k v refl)
 
 module _ (es : List Expr) (ns : List Node) (tree : Tree ns) where
 
@@ -77,7 +92,7 @@ module _ (es : List Expr) (ns : List Node) (tree : Tree ns) where
     filled-map f rows cols (suc k) (suc j) n k< j< η θ h same x =
         ( f (rows n) (cols n) (formula-at es ns n) η θ (same n itself) h (x .0)
         , parts-map (Each R) (Filled-to one es ns rows k) (Filled-to two es ns cols j) η θ (rows n) (cols n) (getD ns n nd.False)
-            h (λ v. each-put R η θ v (rows n) (cols n) h (same n itself))
+            (λ _. h) (λ v _. each-put R η θ v (rows n) (cols n) h (same n itself))
             (λ c nc ζ ξ hz y.
                 let c< : c < n = tree .lower n c nc in
                 filled-map f rows cols k j c (omega arith) (omega arith) ζ ξ hz (λ m u. same m (under-part ns tree n c m nc u)) y)
@@ -93,7 +108,7 @@ module _ (es : List Expr) (ns : List Node) (tree : Tree ns) where
         elim (under-top ns tree n m u)
             [ inl e ↦ subst (λ (z : ℕ). R (rows z) (cols z)) e here
             | inr w ↦ parts-agree (Each R) (Filled-to one es ns rows k) (Filled-to two es ns cols k) (λ c. Under ns c m → R (rows m) (cols m))
-                η θ (rows n) (cols n) (getD ns n nd.False) h (λ v. each-put R η θ v (rows n) (cols n) h here)
+                η θ (rows n) (cols n) (getD ns n nd.False) (λ _. h) (λ v _. each-put R η θ v (rows n) (cols n) h here)
                 (λ c nc ζ ξ hz p q v. filled-agree f rows cols k c (omega (arith, tree .lower n c nc)) ζ ξ hz p q m v)
                 (x .1) (y .1) (w .0) (w .1) (w .2) ]
 
@@ -105,7 +120,7 @@ module _ (es : List Expr) (ns : List Node) (tree : Tree ns) where
   filled-with {A} one two f rows (suc k) (suc j) n k< j< η x =
       ( f (rows n) (formula-at es ns n) η (x .0)
       , parts-map (λ ζ ξ. ζ ≡ ξ) (Filled-to one es ns rows k) (Filled-to two es ns rows j) η η (rows n) (rows n) (getD ns n nd.False)
-          refl (λ v. refl)
+          (λ _. refl) (λ v _. refl)
           (λ c nc ζ ξ e y.
               let c< : c < n = tree .lower n c nc in
               subst (λ (ω : Env A). Filled-to two es ns rows j ω c) e (filled-with one two f rows k j c (omega arith) (omega arith) ζ y))
@@ -118,7 +133,7 @@ module _ (es : List Expr) (ns : List Node) (tree : Tree ns) where
   fill {A} means rows η n m x =
       ( subst (λ (φ : Formula). means (rows n) φ η) (sym (form-of es ns tree n)) m
       , parts-map (λ ζ ξ. ζ ≡ ξ) (λ ζ c. Filled-to means es ns rows (suc c) ζ c) (Filled-to means es ns rows n) η η (rows n) (rows n) (getD ns n nd.False)
-          refl (λ v. refl)
+          (λ _. refl) (λ v _. refl)
           (λ c nc ζ ξ e y. subst (λ (ω : Env A). Filled-to means es ns rows n ω c) e
               (filled-with means means (λ V φ ω z. z) rows (suc c) n c (omega arith) (tree .lower n c nc) ζ y))
           x )
@@ -127,7 +142,7 @@ module _ (es : List Expr) (ns : List Node) (tree : Tree ns) where
       → Parts (λ ζ c. Filled-to means es ns rows (suc c) ζ c) η (rows n) (getD ns n nd.False)
   unfill {A} means rows η n x =
       parts-map (λ ζ ξ. ζ ≡ ξ) (Filled-to means es ns rows n) (λ ζ c. Filled-to means es ns rows (suc c) ζ c) η η (rows n) (rows n) (getD ns n nd.False)
-          refl (λ v. refl)
+          (λ _. refl) (λ v _. refl)
           (λ c nc ζ ξ e y. subst (λ (ω : Env A). Filled-to means es ns rows (suc c) ω c) e
               (filled-with means means (λ V φ ω z. z) rows n (suc c) c (tree .lower n c nc) (omega arith) ζ y))
           (x .1)
