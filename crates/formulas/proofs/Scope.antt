@@ -21,11 +21,12 @@ module _ (es : List Expr) (ns : List Node) where
 
   -- One entry further up, at an entry that is x.
   pub up : (v : ℕ) (k j : Parity) (n c : ℕ) (x : Node) → getD ns n nd.False ≡ x → Names c x → ¬ Binds v x → k ≡ turned x j → Found v j c → Found v k n
-  up v k j n c x e nc nb t f =
-      ( f .0
-      , down (subst (λ (y : Node). Names c y) (sym e) nc) (subst (λ (y : Node). ¬ Binds v y) (sym e) nb)
-            (subst (λ (y : Node). k ≡ turned y j) (sym e) t) (f .1)
-      , f .2 )
+  up v k j n c x e nc nb t f = (
+    f .0,
+    down (subst (λ (y : Node). Names c y) (sym e) nc) (subst (λ (y : Node). ¬ Binds v y) (sym e) nb)
+        (subst (λ (y : Node). k ≡ turned y j) (sym e) t) (f .1),
+    f .2,
+  )
 
   other-twice : (k : Parity) → k ≡ other (other k)
   other-twice Even = refl
@@ -38,13 +39,15 @@ module _ (es : List Expr) (ns : List Node) where
   way v part ih k n nd.True e h = absurd h
   way v part ih k n (nd.Not c) e h = up v k (other k) n c (nd.Not c) e refl (λ x. x) (other-twice k) (ih (other k) c h)
   way v part ih k n (nd.Or c d) e h =
-      elim (or-split (occurs k v (part c)) (occurs k v (part d)) h)
-          [ inl x ↦ up v k k n c (nd.Or c d) e (inl refl) (λ z. z) refl (ih k c x)
-          | inr x ↦ up v k k n d (nd.Or c d) e (inr refl) (λ z. z) refl (ih k d x) ]
+      elim (or-split (occurs k v (part c)) (occurs k v (part d)) h) [
+        | inl x ↦ up v k k n c (nd.Or c d) e (inl refl) (λ z. z) refl (ih k c x)
+        | inr x ↦ up v k k n d (nd.Or c d) e (inr refl) (λ z. z) refl (ih k d x)
+      ]
   way v part ih k n (nd.And c d) e h =
-      elim (or-split (occurs k v (part c)) (occurs k v (part d)) h)
-          [ inl x ↦ up v k k n c (nd.And c d) e (inl refl) (λ z. z) refl (ih k c x)
-          | inr x ↦ up v k k n d (nd.And c d) e (inr refl) (λ z. z) refl (ih k d x) ]
+      elim (or-split (occurs k v (part c)) (occurs k v (part d)) h) [
+        | inl x ↦ up v k k n c (nd.And c d) e (inl refl) (λ z. z) refl (ih k c x)
+        | inr x ↦ up v k k n d (nd.And c d) e (inr refl) (λ z. z) refl (ih k d x)
+      ]
   way v part ih k n (nd.Diamond a i c) e h = up v k k n c (nd.Diamond a i c) e refl (λ z. z) refl (ih k c h)
   way v part ih k n (nd.Box a i c) e h = up v k k n c (nd.Box a i c) e refl (λ z. z) refl (ih k c h)
   way v part ih k n (nd.Variable w) e h =
@@ -79,16 +82,16 @@ module _ (es : List Expr) (ns : List Node) where
   keeps ok d n (nd.Variable v) e ih = tt
   keeps ok d n (nd.Least v c) e ih =
       and-both (not (occurs Odd v (formula-to es ns d c))) (proper (formula-to es ns d c))
-          (not-iff (occurs Odd v (formula-to es ns d c)) .1 (λ h.
-              let f = ways v d Odd c h in
-              ok n c v (f .0) (subst (λ (y : Node). Binds v y) (sym e) refl) (subst (λ (y : Node). Names c y) (sym e) refl) (f .1) (f .2)))
-          (ih c)
+      (not-iff (occurs Odd v (formula-to es ns d c)) .1 (λ h.
+      let f = ways v d Odd c h in
+      ok n c v (f .0) (subst (λ (y : Node). Binds v y) (sym e) refl) (subst (λ (y : Node). Names c y) (sym e) refl) (f .1) (f .2)))
+      (ih c)
   keeps ok d n (nd.Greatest v c) e ih =
       and-both (not (occurs Odd v (formula-to es ns d c))) (proper (formula-to es ns d c))
-          (not-iff (occurs Odd v (formula-to es ns d c)) .1 (λ h.
-              let f = ways v d Odd c h in
-              ok n c v (f .0) (subst (λ (y : Node). Binds v y) (sym e) refl) (subst (λ (y : Node). Names c y) (sym e) refl) (f .1) (f .2)))
-          (ih c)
+      (not-iff (occurs Odd v (formula-to es ns d c)) .1 (λ h.
+      let f = ways v d Odd c h in
+      ok n c v (f .0) (subst (λ (y : Node). Binds v y) (sym e) refl) (subst (λ (y : Node). Names c y) (sym e) refl) (f .1) (f .2)))
+      (ih c)
 
   pub balanced-proper : Balanced ns → (d n : ℕ) → T (proper (formula-to es ns d n))
   balanced-proper ok zero n = tt

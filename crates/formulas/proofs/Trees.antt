@@ -49,13 +49,13 @@ module _ (es : List Expr) (lower : (n c : ℕ) → Part-of c (getD es n ex.False
   expr-deep (suc k) zero n k< j< = absurd (omega arith)
   expr-deep (suc k) (suc j) n k< j< =
       expression-same (expression-to es k) (expression-to es j) (getD es n ex.False)
-          (λ c h. expr-deep k j c (omega (arith, lower n c h)) (omega (arith, lower n c h)))
+      (λ c h. expr-deep k j c (omega (arith, lower n c h)) (omega (arith, lower n c h)))
 
   -- The expression of an entry from the expressions of its parts.
   pub expr-of : (n : ℕ) → expression-at es n ≡ as-expression (expression-at es) (getD es n ex.False)
   expr-of n =
       expression-same (expression-to es n) (expression-at es) (getD es n ex.False)
-          (λ c h. expr-deep n (suc c) c (lower n c h) (omega arith))
+      (λ c h. expr-deep n (suc c) c (lower n c h) (omega arith))
 
 under-cases : {ns : List Node} {n m : ℕ} → Under ns n m → (n ≡ m) ⊎ ((p : ℕ) × Under ns n p × Names m (getD ns p nd.False))
 under-cases itself = inl refl
@@ -68,13 +68,13 @@ module _ (es : List Expr) (ns : List Node) (tree : Tree ns) where
   form-deep (suc k) zero n k< j< = absurd (omega arith)
   form-deep (suc k) (suc j) n k< j< =
       formula-same (expression-at es) (formula-to es ns k) (formula-to es ns j) (getD ns n nd.False)
-          (λ c h. form-deep k j c (omega (arith, tree .lower n c h)) (omega (arith, tree .lower n c h)))
+      (λ c h. form-deep k j c (omega (arith, tree .lower n c h)) (omega (arith, tree .lower n c h)))
 
   -- The formula of an entry from the formulas of its parts.
   pub form-of : (n : ℕ) → formula-at es ns n ≡ as-formula (expression-at es) (formula-at es ns) (getD ns n nd.False)
   form-of n =
       formula-same (expression-at es) (formula-to es ns n) (formula-at es ns) (getD ns n nd.False)
-          (λ c h. form-deep n (suc c) c (tree .lower n c h) (omega arith))
+      (λ c h. form-deep n (suc c) c (tree .lower n c h) (omega arith))
 
 module _ (ns : List Node) (tree : Tree ns) where
   -- What is under an entry has no larger number; and under one of its parts is under it.
@@ -93,21 +93,24 @@ module _ (ns : List Node) (tree : Tree ns) where
   pub under-top : (n m : ℕ) → Under ns n m → (n ≡ m) ⊎ ((c : ℕ) × Names c (getD ns n nd.False) × Under ns c m)
   under-top n m itself = inl refl
   under-top n m (further {p = p} u h) =
-      elim (under-top n p u)
-          [ inl e ↦ inr (m, subst (λ (z : ℕ). Names m (getD ns z nd.False)) (sym e) h, itself)
-          | inr x ↦ inr (x .0, x .1, further (x .2) h) ]
+      elim (under-top n p u) [
+        | inl e ↦ inr (m, subst (λ (z : ℕ). Names m (getD ns z nd.False)) (sym e) h, itself)
+        | inr x ↦ inr (x .0, x .1, further (x .2) h)
+      ]
 
   -- Nothing is under two different parts of one entry.
   pub parts-apart : (n c d m : ℕ) → Names c (getD ns n nd.False) → Names d (getD ns n nd.False) → ¬ (c ≡ d)
       → Under ns c m → Under ns d m → ⊥
   parts-apart n c d m nc md ne itself w =
-      elim (under-cases w)
-          [ inl e ↦ ne (sym e)
-          | inr x ↦ (let e : n ≡ x .0 = tree .once n (x .0) c nc (x .2) in
-              omega (arith, under-le d (x .0) (x .1), tree .lower n d md)) ]
+      elim (under-cases w) [
+        | inl e ↦ ne (sym e)
+        | inr x ↦ (let e : n ≡ x .0 = tree .once n (x .0) c nc (x .2) in
+            omega (arith, under-le d (x .0) (x .1), tree .lower n d md))
+      ]
   parts-apart n c d m nc md ne (further {p = p} u h) w =
-      elim (under-cases w)
-          [ inl e ↦ (let q : n ≡ p = tree .once n p d md (subst (λ (z : ℕ). Names z (getD ns p nd.False)) (sym e) h) in
-              omega (arith, under-le c p u, tree .lower n c nc))
-          | inr x ↦ (let q : x .0 ≡ p = tree .once (x .0) p m (x .2) h in
-              parts-apart n c d p nc md ne u (subst (λ (z : ℕ). Under ns d z) q (x .1))) ]
+      elim (under-cases w) [
+        | inl e ↦ (let q : n ≡ p = tree .once n p d md (subst (λ (z : ℕ). Names z (getD ns p nd.False)) (sym e) h) in
+            omega (arith, under-le c p u, tree .lower n c nc))
+        | inr x ↦ (let q : x .0 ≡ p = tree .once (x .0) p m (x .2) h in
+            parts-apart n c d p nc md ne u (subst (λ (z : ℕ). Under ns d z) q (x .1)))
+      ]

@@ -21,7 +21,7 @@ module _ (n : ℕ) (transitions : List Transition) (c : ℕ) where
   plain-grows φ v even ε U W h s s< x =
       let η : Env Pairs = λ w t q. ε w t in
       let at : (X : States) → _ = λ X. projects alone φ 0 (lit< tt) (put η v (λ t q. X t)) (put ε v X)
-          (agree-put alone 0 η ε (λ w t _. (λ y. y, λ y. y)) v (λ t q. X t) X (λ t _. (λ y. y, λ y. y))) s s< in
+      (agree-put alone 0 η ε (λ w t _. (λ y. y, λ y. y)) v (λ t q. X t) X (λ t _. (λ y. y, λ y. y))) s s< in
       at W .0 (grows-with alone φ v even η (λ t q. U t) (λ t q. W t) (λ t q t< _. h t t<) s 0 s< (lit< tt) (at U .1 x))
 
   -- They take the variables' sets only by what is in them.

@@ -45,24 +45,26 @@ module _ (F : Family) (es : List Expr) (ns : List Node) where
   Free-same n η θ = (k : Parity) (v : ℕ) → Found es ns v k n → Same F (η v) (θ v)
 
   means-free : (n : ℕ) (V : Pairs) (η θ : Env Pairs) → Free-same n η θ → Means F V (formula-at es ns n) η → Means F V (formula-at es ns n) θ
-  means-free n V η θ h m t q t< q< =
-      ( λ x. grows F (formula-at es ns n) η θ (λ w o. λ r p r< p<. h Even w (ways es ns w (suc n) Even n o) r p r< p< .0)
-          (λ w o. λ r p r< p<. h Odd w (ways es ns w (suc n) Odd n o) r p r< p< .1) t q t< q< (m t q t< q< .0 x)
-      , λ x. m t q t< q< .1 (grows F (formula-at es ns n) θ η (λ w o. λ r p r< p<. h Even w (ways es ns w (suc n) Even n o) r p r< p< .1)
-          (λ w o. λ r p r< p<. h Odd w (ways es ns w (suc n) Odd n o) r p r< p< .0) t q t< q< x) )
+  means-free n V η θ h m t q t< q< = (
+    λ x. grows F (formula-at es ns n) η θ (λ w o. λ r p r< p<. h Even w (ways es ns w (suc n) Even n o) r p r< p< .0)
+        (λ w o. λ r p r< p<. h Odd w (ways es ns w (suc n) Odd n o) r p r< p< .1) t q t< q< (m t q t< q< .0 x),
+    λ x. m t q t< q< .1 (grows F (formula-at es ns n) θ η (λ w o. λ r p r< p<. h Even w (ways es ns w (suc n) Even n o) r p r< p< .1)
+        (λ w o. λ r p r< p<. h Odd w (ways es ns w (suc n) Odd n o) r p r< p< .0) t q t< q< x),
+  )
 
   free-to : (rows : ℕ → Pairs) (k n : ℕ) (η θ : Env Pairs) → Free-same n η θ → Filled-to (Means F) es ns rows k η n → Filled-to (Means F) es ns rows k θ n
   free-to rows zero n η θ h x = tt
   free-to rows (suc k) n η θ h x =
-      let e = getD ns n nd.False in
-      ( means-free n (rows n) η θ h (x .0)
-      , parts-map (λ ζ ξ. (c : ℕ) → Names c e → Free-same c ζ ξ) (Filled-to (Means F) es ns rows k) (Filled-to (Means F) es ns rows k)
-          η θ (rows n) (rows n) e
-          (λ nb c nc j v f. h (turned e j) v (up es ns v (turned e j) j n c e refl nc (nb v) refl f))
-          (λ v bv c nc j w f. put-same F η θ v (rows n) w
-              (λ ne. h (turned e j) w (up es ns w (turned e j) j n c e refl nc (λ bw. ne (one e w v bw bv)) refl f)))
-          (λ c nc ζ ξ hz y. free-to rows k c ζ ξ (hz c nc) y)
-          (x .1) )
+      let e = getD ns n nd.False in (
+        means-free n (rows n) η θ h (x .0),
+        parts-map (λ ζ ξ. (c : ℕ) → Names c e → Free-same c ζ ξ) (Filled-to (Means F) es ns rows k) (Filled-to (Means F) es ns rows k)
+            η θ (rows n) (rows n) e
+            (λ nb c nc j v f. h (turned e j) v (up es ns v (turned e j) j n c e refl nc (nb v) refl f))
+            (λ v bv c nc j w f. put-same F η θ v (rows n) w
+            (λ ne. h (turned e j) w (up es ns w (turned e j) j n c e refl nc (λ bw. ne (one e w v bw bv)) refl f)))
+            (λ c nc ζ ξ hz y. free-to rows k c ζ ξ (hz c nc) y)
+            (x .1),
+      )
     where
       -- an entry is a fixpoint of one variable
       one : (e : Node) (w v : ℕ) → Binds w e → Binds v e → w ≡ v
@@ -93,24 +95,26 @@ module _ (F : Family) (es : List Expr) (ns : List Node) where
     from : (k n : ℕ) (ζ : Env Pairs) → Each (Same F) η ζ → Settled n
         → ((m : ℕ) → Under ns n m → Means F (rows m) (formula-at es ns m) η) → Filled-to (Means F) es ns rows k ζ n
     from zero n ζ h settled m = tt
-    from (suc k) n ζ h settled m =
-        ( means-same F (rows n) (rows n) (formula-at es ns n) η ζ (same-refl F (rows n)) h (m n itself)
-        , parts-all (λ ξ. Each (Same F) η ξ) (Filled-to (Means F) es ns rows k) ζ (rows n) (getD ns n nd.False)
-            (λ _. h) (λ v b. each-same F η ζ v (rows n) h (settled n v itself b))
-            (λ c nc ξ hx. from k c ξ hx (λ j v u. settled j v (under-part ns tree n c j nc u)) (λ j u. m j (under-part ns tree n c j nc u))) )
+    from (suc k) n ζ h settled m = (
+      means-same F (rows n) (rows n) (formula-at es ns n) η ζ (same-refl F (rows n)) h (m n itself),
+      parts-all (λ ξ. Each (Same F) η ξ) (Filled-to (Means F) es ns rows k) ζ (rows n) (getD ns n nd.False)
+          (λ _. h) (λ v b. each-same F η ζ v (rows n) h (settled n v itself b))
+          (λ c nc ξ hx. from k c ξ hx (λ j v u. settled j v (under-part ns tree n c j nc u)) (λ j u. m j (under-part ns tree n c j nc u))),
+    )
 
     to : (k n : ℕ) → n < k → (ζ : Env Pairs) → Each (Same F) η ζ → Settled n → Filled-to (Means F) es ns rows k ζ n
         → (m : ℕ) → Under ns n m → Means F (rows m) (formula-at es ns m) η
     to zero n n< ζ h settled x m u = absurd (omega arith)
     to (suc k) n n< ζ h settled x m u =
-        elim (under-top ns tree n m u)
-            [ inl e ↦ subst (λ (z : ℕ). Means F (rows z) (formula-at es ns z) η) e
-                (means-same F (rows n) (rows n) (formula-at es ns n) ζ η (same-refl F (rows n)) (λ w t q t< q<. Iff·symm (h w t q t< q<)) (x .0))
-            | inr y ↦ parts-agree (λ ξ _. Each (Same F) η ξ) (Filled-to (Means F) es ns rows k) (Filled-to (Means F) es ns rows k)
-                (λ c. Under ns c m → Means F (rows m) (formula-at es ns m) η) ζ ζ (rows n) (rows n) (getD ns n nd.False)
-                (λ _. h) (λ v b. each-same F η ζ v (rows n) h (settled n v itself b))
-                (λ c nc ξ _ hx p _ v. to k c (omega (arith, tree .lower n c nc)) ξ hx (λ j w i. settled j w (under-part ns tree n c j nc i)) p m v)
-                (x .1) (x .1) (y .0) (y .1) (y .2) ]
+        elim (under-top ns tree n m u) [
+          | inl e ↦ subst (λ (z : ℕ). Means F (rows z) (formula-at es ns z) η) e
+              (means-same F (rows n) (rows n) (formula-at es ns n) ζ η (same-refl F (rows n)) (λ w t q t< q<. Iff·symm (h w t q t< q<)) (x .0))
+          | inr y ↦ parts-agree (λ ξ _. Each (Same F) η ξ) (Filled-to (Means F) es ns rows k) (Filled-to (Means F) es ns rows k)
+              (λ c. Under ns c m → Means F (rows m) (formula-at es ns m) η) ζ ζ (rows n) (rows n) (getD ns n nd.False)
+              (λ _. h) (λ v b. each-same F η ζ v (rows n) h (settled n v itself b))
+              (λ c nc ξ _ hx p _ v. to k c (omega (arith, tree .lower n c nc)) ξ hx (λ j w i. settled j w (under-part ns tree n c j nc i)) p m v)
+              (x .1) (x .1) (y .0) (y .1) (y .2)
+        ]
 
     -- In such an environment rows are filled exactly if each is the meaning of its entry in it.
     pub filled-from : (n : ℕ) → Settled n → ((m : ℕ) → Under ns n m → Means F (rows m) (formula-at es ns m) η) → Filled F es ns rows η n

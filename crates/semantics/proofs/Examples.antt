@@ -33,18 +33,20 @@ gives F φ ds h =
     let f : ℕ → Bool = λ p. digit (decide F φ no-pairs 0 p) (getD ds p 0) in
     let x = and-split (proper φ && ltb 0 (F .states)) (eqb (length ds) (count F) && every (count F) f) h in
     let y = and-split (proper φ) (ltb 0 (F .states)) (x .0) in
-    let z = and-split (eqb (length ds) (count F)) (every (count F) f) (x .1) in
-    ( eqb→eq (length ds) (count F) (z .0)
-    , λ p p<. says (decide F φ no-pairs 0 p) (getD ds p 0) (Holds-for F φ no-pairs 0 p)
-        (decided F φ (y .0) no-pairs 0 p (ltb→lt 0 (F .states) (y .1)) p<)
-        (every-iff (count F) f .0 (z .1) p p<) )
+    let z = and-split (eqb (length ds) (count F)) (every (count F) f) (x .1) in (
+      eqb→eq (length ds) (count F) (z .0),
+      λ p p<. says (decide F φ no-pairs 0 p) (getD ds p 0) (Holds-for F φ no-pairs 0 p)
+          (decided F φ (y .0) no-pairs 0 p (ltb→lt 0 (F .states) (y .1)) p<)
+          (every-iff (count F) f .0 (z .1) p p<),
+    )
 
 pub examples-hold : Examples-hold
-examples-hold =
-    ( gives six-transitions fills-by-hand (0 ∷ 1 ∷ 1 ∷ 0 ∷ []) tt
-    , gives six-transitions no-fill-by-hand (1 ∷ 0 ∷ 0 ∷ 1 ∷ []) tt
-    , gives six-transitions reaches-cut (1 ∷ 1 ∷ 1 ∷ 0 ∷ []) tt
-    , gives six-transitions no-early-cut (1 ∷ 0 ∷ 0 ∷ 1 ∷ []) tt
-    , gives five-transitions no-early-cut (1 ∷ 1 ∷ 0 ∷ 1 ∷ []) tt
-    , gives six-transitions cuts-again (1 ∷ 1 ∷ 1 ∷ 1 ∷ []) tt
-    , gives six-transitions not-nothing (1 ∷ 1 ∷ 1 ∷ 1 ∷ []) tt )
+examples-hold = (
+  gives six-transitions fills-by-hand (0 ∷ 1 ∷ 1 ∷ 0 ∷ []) tt,
+  gives six-transitions no-fill-by-hand (1 ∷ 0 ∷ 0 ∷ 1 ∷ []) tt,
+  gives six-transitions reaches-cut (1 ∷ 1 ∷ 1 ∷ 0 ∷ []) tt,
+  gives six-transitions no-early-cut (1 ∷ 0 ∷ 0 ∷ 1 ∷ []) tt,
+  gives five-transitions no-early-cut (1 ∷ 1 ∷ 0 ∷ 1 ∷ []) tt,
+  gives six-transitions cuts-again (1 ∷ 1 ∷ 1 ∷ 1 ∷ []) tt,
+  gives six-transitions not-nothing (1 ∷ 1 ∷ 1 ∷ 1 ∷ []) tt,
+)

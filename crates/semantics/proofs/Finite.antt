@@ -23,9 +23,10 @@ every (suc n) f = f 0 && every n (λ k. f (suc k))
 pub every-iff : (n : ℕ) (f : ℕ → Bool) → T (every n f) ↔ ((k : ℕ) → k < n → T (f k))
 every-iff zero f = (λ _ k h. absurd (not-suc-le-zero h), λ _. tt)
 every-iff (suc n) f =
-    let ih = every-iff n (λ k. f (suc k)) in
-    ( λ h. let b = and-split (f 0) (every n (λ k. f (suc k))) h in below (λ k. T (f k)) n (b .0) (ih .0 (b .1))
-    , λ h. and-both (f 0) (every n (λ k. f (suc k))) (h 0 (omega arith)) (ih .1 (λ k k<. h (suc k) (omega arith))) )
+    let ih = every-iff n (λ k. f (suc k)) in (
+      λ h. let b = and-split (f 0) (every n (λ k. f (suc k))) h in below (λ k. T (f k)) n (b .0) (ih .0 (b .1)),
+      λ h. and-both (f 0) (every n (λ k. f (suc k))) (h 0 (omega arith)) (ih .1 (λ k k<. h (suc k) (omega arith))),
+    )
 
 -- a list of tests
 abbrev pub tabulate : ℕ → (ℕ → Bool) → List Bool
@@ -57,6 +58,7 @@ some-iff {A} f (x ∷ xs) =
     there : (T (some f xs) → (y : A) × List·Memᴰ y xs × T (f y)) → T (f x) ⊎ T (some f xs) → (y : A) × List·Memᴰ y (x ∷ xs) × T (f y)
     there ih (inl h) = (x, List·Memᴰ·head refl, h)
     there ih (inr h) = let r = ih h in (r .0, List·Memᴰ·tail (r .1), r .2)
+
     back : (((y : A) × List·Memᴰ y xs × T (f y)) → T (some f xs)) → (y : A) → T (f y) → (y ≡ x) ⊎ List·Memᴰ y xs → T (f x || some f xs)
     back ih y t (inl e) = or-left (f x) (some f xs) (subst (λ (z : A). T (f z)) e t)
     back ih y t (inr m) = or-right (f x) (some f xs) (ih (y, m, t))
@@ -82,7 +84,7 @@ pub grew : (n : ℕ) (f g : ℕ → Bool) → ((k : ℕ) → k < n → T (f k) �
 grew zero f g h = inl (λ k k<. absurd (not-suc-le-zero k<))
 grew (suc n) f g h =
     go (f 0) (g 0) refl refl (h 0 (omega arith)) (among-mono n (λ k. f (suc k)) (λ k. g (suc k)) (λ k k<. h (suc k) (omega arith)))
-        (grew n (λ k. f (suc k)) (λ k. g (suc k)) (λ k k<. h (suc k) (omega arith)))
+    (grew n (λ k. f (suc k)) (λ k. g (suc k)) (λ k k<. h (suc k) (omega arith)))
   where
     go : (x y : Bool) → f 0 ≡ x → g 0 ≡ y → (T x → T y) → {a b : ℕ} → a ≤ b
         → ((k : ℕ) → k < n → T (g (suc k)) → T (f (suc k))) ⊎ (a < b)
@@ -128,9 +130,11 @@ kept {A} f (x ∷ xs) y =
         → List·Memᴰ y (x ∷ xs) × T (f y)
     there ih false e m = let r = ih m in (List·Memᴰ·tail (r .0), r .1)
     there ih true e m =
-        elim (List·Memᴰ·cases-cons m)
-            [ inl p ↦ (List·Memᴰ·head p, subst T (sym (ap f p ∙ e)) tt)
-            | inr n ↦ (let r = ih n in (List·Memᴰ·tail (r .0), r .1)) ]
+        elim (List·Memᴰ·cases-cons m) [
+          | inl p ↦ (List·Memᴰ·head p, subst T (sym (ap f p ∙ e)) tt)
+          | inr n ↦ (let r = ih n in (List·Memᴰ·tail (r .0), r .1))
+        ]
+
     back : (List·Memᴰ y xs × T (f y) → List·Memᴰ y (keep f xs)) → T (f y) → (b : Bool) → f x ≡ b → (y ≡ x) ⊎ List·Memᴰ y xs
         → List·Memᴰ y (cond b (x ∷ keep f xs) (keep f xs))
     back ih t true e (inl p) = List·Memᴰ·head p
@@ -165,9 +169,10 @@ module _ (n : ℕ) (F : List Bool → List Bool) (mono : (V W : List Bool) → S
 
   pub rests : (V : List Bool) → Sub n V (F V) → Sub n (F (iterate n F V)) (iterate n F V)
   rests V up =
-      elim (rises n 0 V up (inr (omega arith)))
-          [ inl h ↦ h
-          | inr h ↦ (λ s s< _. full n (at (iterate n F V)) (omega arith) s s<) ]
+      elim (rises n 0 V up (inr (omega arith))) [
+        | inl h ↦ h
+        | inr h ↦ (λ s s< _. full n (at (iterate n F V)) (omega arith) s s<)
+      ]
 
 -- how many pairs
 abbrev pub total : ℕ → ℕ → (ℕ → ℕ → Bool) → ℕ
@@ -189,9 +194,9 @@ pub grew-pairs : (n m : ℕ) (V W : ℕ → ℕ → Bool) → ((t q : ℕ) → t
 grew-pairs zero m V W h = inl (λ t q t<. absurd (not-suc-le-zero t<))
 grew-pairs (suc n) m V W h =
     go (grew m (V 0) (W 0) (λ q q<. h 0 q (omega arith) q<))
-       (grew-pairs n m (λ s. V (suc s)) (λ s. W (suc s)) (λ t q t< q<. h (suc t) q (omega arith) q<))
-       (among-mono m (V 0) (W 0) (λ q q<. h 0 q (omega arith) q<))
-       (total-mono n m (λ s. V (suc s)) (λ s. W (suc s)) (λ t q t< q<. h (suc t) q (omega arith) q<))
+    (grew-pairs n m (λ s. V (suc s)) (λ s. W (suc s)) (λ t q t< q<. h (suc t) q (omega arith) q<))
+    (among-mono m (V 0) (W 0) (λ q q<. h 0 q (omega arith) q<))
+    (total-mono n m (λ s. V (suc s)) (λ s. W (suc s)) (λ t q t< q<. h (suc t) q (omega arith) q<))
   where
     go : {a b c d : ℕ} → ((q : ℕ) → q < m → T (W 0 q) → T (V 0 q)) ⊎ (a < b)
         → ((t q : ℕ) → t < n → q < m → T (W (suc t) q) → T (V (suc t) q)) ⊎ (c < d)

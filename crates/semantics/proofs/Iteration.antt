@@ -73,13 +73,13 @@ pub iterates-up : Iterates-up
 iterates-up F φ v none η V k start step same =
     let k≤ : k ≤ k = omega arith in
     low-all F φ v η (V k) (lows F φ v none η V k start step k k≤)
-        (λ t q t< q< x. subst T (sym (same t q t< q<)) (step k k≤ t q t< q< .1 x))
+    (λ t q t< q< x. subst T (sym (same t q t< q<)) (step k k≤ t q t< q< .1 x))
 
 pub iterates-down : Iterates-down
 iterates-down F φ v none η V k start step same =
     let k≤ : k ≤ k = omega arith in
     high-all F φ v η (V k) (highs F φ v none η V k start step k k≤)
-        (λ t q t< q< x. step k k≤ t q t< q< .0 (subst T (same t q t< q<) x))
+    (λ t q t< q< x. step k k≤ t q t< q< .0 (subst T (same t q t< q<) x))
 
 -- A set within its image stays so after a round, and grows by it; the empty set is one. So iteration from nothing only grows.
 pub backed-none : (F : Family) (φ : Formula) (v : ℕ) (η : Env Pairs) (V : Pairs)

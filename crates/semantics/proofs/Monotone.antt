@@ -31,23 +31,26 @@ grows F Formula.False η θ up down s p s< p< x = x
 grows F Formula.True η θ up down s p s< p< x = x
 grows F (Formula.Not φ) η θ up down s p s< p< x = λ y. x (grows F φ θ η down up s p s< p< y)
 grows F (Formula.Or φ ψ) η θ up down s p s< p< x =
-    elim x
-        [ inl y ↦ inl (grows F φ η θ (λ w o. up w (or-left (occurs Even w φ) (occurs Even w ψ) o)) (λ w o. down w (or-left (occurs Odd w φ) (occurs Odd w ψ) o)) s p s< p< y)
-        | inr y ↦ inr (grows F ψ η θ (λ w o. up w (or-right (occurs Even w φ) (occurs Even w ψ) o)) (λ w o. down w (or-right (occurs Odd w φ) (occurs Odd w ψ) o)) s p s< p< y) ]
-grows F (Formula.And φ ψ) η θ up down s p s< p< x =
-    ( grows F φ η θ (λ w o. up w (or-left (occurs Even w φ) (occurs Even w ψ) o)) (λ w o. down w (or-left (occurs Odd w φ) (occurs Odd w ψ) o)) s p s< p< (x .0)
-    , grows F ψ η θ (λ w o. up w (or-right (occurs Even w φ) (occurs Even w ψ) o)) (λ w o. down w (or-right (occurs Odd w φ) (occurs Odd w ψ) o)) s p s< p< (x .1) )
+    elim x [
+      | inl y ↦ inl (grows F φ η θ (λ w o. up w (or-left (occurs Even w φ) (occurs Even w ψ) o)) (λ w o. down w (or-left (occurs Odd w φ) (occurs Odd w ψ) o)) s p s< p< y)
+      | inr y ↦ inr (grows F ψ η θ (λ w o. up w (or-right (occurs Even w φ) (occurs Even w ψ) o)) (λ w o. down w (or-right (occurs Odd w φ) (occurs Odd w ψ) o)) s p s< p< y)
+    ]
+grows F (Formula.And φ ψ) η θ up down s p s< p< x = (
+  grows F φ η θ (λ w o. up w (or-left (occurs Even w φ) (occurs Even w ψ) o)) (λ w o. down w (or-left (occurs Odd w φ) (occurs Odd w ψ) o)) s p s< p< (x .0),
+  grows F ψ η θ (λ w o. up w (or-right (occurs Even w φ) (occurs Even w ψ) o)) (λ w o. down w (or-right (occurs Odd w φ) (occurs Odd w ψ) o)) s p s< p< (x .1),
+)
 grows F (Formula.Diamond a e φ) η θ up down s p s< p< x =
     (x .0, (x .1 .0, x .1 .1, x .1 .2, grows F φ η θ up down (x .1 .0) p (x .1 .1) p< (x .1 .3)))
 grows F (Formula.Box a e φ) η θ up down s p s< p< x = λ m t t< o. grows F φ η θ up down t p t< p< (x m t t< o)
 grows F (Formula.Variable v) η θ up down s p s< p< x = up v (and-both (eqb v v) true (eqb-refl v) tt) s p s< p< x
 grows F (Formula.Least v φ) η θ up down s p s< p< x =
     λ V closed. x V (λ t q t< q< y. closed t q t< q<
-        (grows F φ (put η v V) (put θ v V) (up-put F Even φ v η θ V up) (up-put F Odd φ v θ η V down) t q t< q< y))
-grows F (Formula.Greatest v φ) η θ up down s p s< p< x =
-    ( x .0
-    , λ t q t< q< y. grows F φ (put η v (x .0)) (put θ v (x .0)) (up-put F Even φ v η θ (x .0) up) (up-put F Odd φ v θ η (x .0) down) t q t< q< (x .1 t q t< q< y)
-    , x .2 )
+    (grows F φ (put η v V) (put θ v V) (up-put F Even φ v η θ V up) (up-put F Odd φ v θ η V down) t q t< q< y))
+grows F (Formula.Greatest v φ) η θ up down s p s< p< x = (
+  x .0,
+  λ t q t< q< y. grows F φ (put η v (x .0)) (put θ v (x .0)) (up-put F Even φ v η θ (x .0) up) (up-put F Odd φ v θ η (x .0) down) t q t< q< (x .1 t q t< q< y),
+  x .2,
+)
 
 -- The environments of one variable's change.
 changed : (F : Family) (k : Parity) (φ : Formula) (v : ℕ) (η : Env Pairs) (V W : Pairs)
@@ -67,6 +70,7 @@ shrinks-with F φ v none η V W h =
     grows F φ (put η v W) (put η v V) (changed F Even φ v η W V (λ o. absurd (none o))) (changed F Odd φ v η V W (λ _. h))
 
 pub needs-no-environment : Needs-no-environment
-needs-no-environment F φ closed η θ s p s< p< =
-    ( grows F φ η θ (λ w o. absurd (closed Even w o)) (λ w o. absurd (closed Odd w o)) s p s< p<
-    , grows F φ θ η (λ w o. absurd (closed Even w o)) (λ w o. absurd (closed Odd w o)) s p s< p< )
+needs-no-environment F φ closed η θ s p s< p< = (
+  grows F φ η θ (λ w o. absurd (closed Even w o)) (λ w o. absurd (closed Odd w o)) s p s< p<,
+  grows F φ θ η (λ w o. absurd (closed Even w o)) (λ w o. absurd (closed Odd w o)) s p s< p<,
+)

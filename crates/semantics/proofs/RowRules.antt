@@ -23,7 +23,7 @@ module _ (F : Family) where
       let f = m t q t< q< in
       let g = k t q t< q< in
       Iff·trans (r t q t< q<)
-          (elim [ inl x ↦ inl (f .0 x) | inr x ↦ inr (g .0 x) ], elim [ inl x ↦ inl (f .1 x) | inr x ↦ inr (g .1 x) ])
+      (elim [ inl x ↦ inl (f .0 x) | inr x ↦ inr (g .0 x) ], elim [ inl x ↦ inl (f .1 x) | inr x ↦ inr (g .1 x) ])
 
   pub means-and : (V W X : Pairs) (φ ψ : Formula) (η : Env Pairs) → Everywhere (λ t q. T (V t q) ↔ (T (W t q) × T (X t q)))
       → Means F W φ η → Means F X ψ η → Means F V (Formula.And φ ψ) η
@@ -36,9 +36,10 @@ module _ (F : Family) where
       → Everywhere (λ t q. T (V t q) ↔ (T (satisfies (config F q) e) × ((u : ℕ) × (u < F .states) × Owns (F .transitions) (config F q) t a u × T (W u q))))
       → Means F W φ η → Means F V (Formula.Diamond a e φ) η
   means-diamond V W a e φ η r m t q t< q< =
-      Iff·trans (r t q t< q<)
-          ( λ x. (x .0, (x .1 .0, x .1 .1, x .1 .2, m (x .1 .0) q (x .1 .1) q< .0 (x .1 .3)))
-          , λ x. (x .0, (x .1 .0, x .1 .1, x .1 .2, m (x .1 .0) q (x .1 .1) q< .1 (x .1 .3))) )
+      Iff·trans (r t q t< q<) (
+        λ x. (x .0, (x .1 .0, x .1 .1, x .1 .2, m (x .1 .0) q (x .1 .1) q< .0 (x .1 .3))),
+        λ x. (x .0, (x .1 .0, x .1 .1, x .1 .2, m (x .1 .0) q (x .1 .1) q< .1 (x .1 .3))),
+      )
 
   pub means-box : (V W : Pairs) (a : ℕ) (e : Expression) (φ : Formula) (η : Env Pairs)
       → Everywhere (λ t q. T (V t q) ↔ (T (satisfies (config F q) e) → (u : ℕ) → u < F .states → Owns (F .transitions) (config F q) t a u → T (W u q)))

@@ -81,7 +81,6 @@ parts-all E Q η V (nd.Least v c) h k f = f c refl (put η v V) (k v refl)
 parts-all E Q η V (nd.Greatest v c) h k f = f c refl (put η v V) (k v refl)
 
 module _ (es : List Expr) (ns : List Node) (tree : Tree ns) where
-
   module _ {A B : Type 0} (one : Meaning A) (two : Meaning B) (R : A → B → Type 0) where
     -- Rows that are related to filled ones are filled.
     pub filled-map : ((V : A) (W : B) (φ : Formula) (η : Env A) (θ : Env B) → R V W → Each R η θ → one V φ η → two W φ θ)
@@ -89,14 +88,15 @@ module _ (es : List Expr) (ns : List Node) (tree : Tree ns) where
         → ((m : ℕ) → Under ns n m → R (rows m) (cols m)) → Filled-to one es ns rows k η n → Filled-to two es ns cols j θ n
     filled-map f rows cols zero j n k< j< η θ h same x = absurd (omega arith)
     filled-map f rows cols (suc k) zero n k< j< η θ h same x = absurd (omega arith)
-    filled-map f rows cols (suc k) (suc j) n k< j< η θ h same x =
-        ( f (rows n) (cols n) (formula-at es ns n) η θ (same n itself) h (x .0)
-        , parts-map (Each R) (Filled-to one es ns rows k) (Filled-to two es ns cols j) η θ (rows n) (cols n) (getD ns n nd.False)
-            (λ _. h) (λ v _. each-put R η θ v (rows n) (cols n) h (same n itself))
-            (λ c nc ζ ξ hz y.
-                let c< : c < n = tree .lower n c nc in
-                filled-map f rows cols k j c (omega arith) (omega arith) ζ ξ hz (λ m u. same m (under-part ns tree n c m nc u)) y)
-            (x .1) )
+    filled-map f rows cols (suc k) (suc j) n k< j< η θ h same x = (
+      f (rows n) (cols n) (formula-at es ns n) η θ (same n itself) h (x .0),
+      parts-map (Each R) (Filled-to one es ns rows k) (Filled-to two es ns cols j) η θ (rows n) (cols n) (getD ns n nd.False)
+          (λ _. h) (λ v _. each-put R η θ v (rows n) (cols n) h (same n itself))
+          (λ c nc ζ ξ hz y.
+          let c< : c < n = tree .lower n c nc in
+          filled-map f rows cols k j c (omega arith) (omega arith) ζ ξ hz (λ m u. same m (under-part ns tree n c m nc u)) y)
+          (x .1),
+    )
 
     -- Rows that are both filled are related.
     pub filled-agree : ((V : A) (W : B) (φ : Formula) (η : Env A) (θ : Env B) → Each R η θ → one V φ η → two W φ θ → R V W)
@@ -105,47 +105,50 @@ module _ (es : List Expr) (ns : List Node) (tree : Tree ns) where
     filled-agree f rows cols zero n k< η θ h x y m u = absurd (omega arith)
     filled-agree f rows cols (suc k) n k< η θ h x y m u =
         let here = f (rows n) (cols n) (formula-at es ns n) η θ h (x .0) (y .0) in
-        elim (under-top ns tree n m u)
-            [ inl e ↦ subst (λ (z : ℕ). R (rows z) (cols z)) e here
-            | inr w ↦ parts-agree (Each R) (Filled-to one es ns rows k) (Filled-to two es ns cols k) (λ c. Under ns c m → R (rows m) (cols m))
-                η θ (rows n) (cols n) (getD ns n nd.False) (λ _. h) (λ v _. each-put R η θ v (rows n) (cols n) h here)
-                (λ c nc ζ ξ hz p q v. filled-agree f rows cols k c (omega (arith, tree .lower n c nc)) ζ ξ hz p q m v)
-                (x .1) (y .1) (w .0) (w .1) (w .2) ]
+        elim (under-top ns tree n m u) [
+          | inl e ↦ subst (λ (z : ℕ). R (rows z) (cols z)) e here
+          | inr w ↦ parts-agree (Each R) (Filled-to one es ns rows k) (Filled-to two es ns cols k) (λ c. Under ns c m → R (rows m) (cols m))
+              η θ (rows n) (cols n) (getD ns n nd.False) (λ _. h) (λ v _. each-put R η θ v (rows n) (cols n) h here)
+              (λ c nc ζ ξ hz p q v. filled-agree f rows cols k c (omega (arith, tree .lower n c nc)) ζ ξ hz p q m v)
+              (x .1) (y .1) (w .0) (w .1) (w .2)
+        ]
 
   -- The same rows in the same environment, read to any depth, by another meaning that follows.
   pub filled-with : {A : Type 0} (one two : Meaning A) → ((V : A) (φ : Formula) (η : Env A) → one V φ η → two V φ η)
       → (rows : ℕ → A) (k j n : ℕ) → n < k → n < j → (η : Env A) → Filled-to one es ns rows k η n → Filled-to two es ns rows j η n
   filled-with one two f rows zero j n k< j< η x = absurd (omega arith)
   filled-with one two f rows (suc k) zero n k< j< η x = absurd (omega arith)
-  filled-with {A} one two f rows (suc k) (suc j) n k< j< η x =
-      ( f (rows n) (formula-at es ns n) η (x .0)
-      , parts-map (λ ζ ξ. ζ ≡ ξ) (Filled-to one es ns rows k) (Filled-to two es ns rows j) η η (rows n) (rows n) (getD ns n nd.False)
-          (λ _. refl) (λ v _. refl)
-          (λ c nc ζ ξ e y.
-              let c< : c < n = tree .lower n c nc in
-              subst (λ (ω : Env A). Filled-to two es ns rows j ω c) e (filled-with one two f rows k j c (omega arith) (omega arith) ζ y))
-          (x .1) )
+  filled-with {A} one two f rows (suc k) (suc j) n k< j< η x = (
+    f (rows n) (formula-at es ns n) η (x .0),
+    parts-map (λ ζ ξ. ζ ≡ ξ) (Filled-to one es ns rows k) (Filled-to two es ns rows j) η η (rows n) (rows n) (getD ns n nd.False)
+        (λ _. refl) (λ v _. refl)
+        (λ c nc ζ ξ e y.
+        let c< : c < n = tree .lower n c nc in
+        subst (λ (ω : Env A). Filled-to two es ns rows j ω c) e (filled-with one two f rows k j c (omega arith) (omega arith) ζ y))
+        (x .1),
+  )
 
   -- A row is filled exactly if it has the meaning of its entry over the formulas of its parts, and their rows are filled.
   pub fill : {A : Type 0} (means : Meaning A) (rows : ℕ → A) (η : Env A) (n : ℕ)
       → means (rows n) (as-formula (expression-at es) (formula-at es ns) (getD ns n nd.False)) η
       → Parts (λ ζ c. Filled-to means es ns rows (suc c) ζ c) η (rows n) (getD ns n nd.False) → Filled-to means es ns rows (suc n) η n
-  fill {A} means rows η n m x =
-      ( subst (λ (φ : Formula). means (rows n) φ η) (sym (form-of es ns tree n)) m
-      , parts-map (λ ζ ξ. ζ ≡ ξ) (λ ζ c. Filled-to means es ns rows (suc c) ζ c) (Filled-to means es ns rows n) η η (rows n) (rows n) (getD ns n nd.False)
-          (λ _. refl) (λ v _. refl)
-          (λ c nc ζ ξ e y. subst (λ (ω : Env A). Filled-to means es ns rows n ω c) e
-              (filled-with means means (λ V φ ω z. z) rows (suc c) n c (omega arith) (tree .lower n c nc) ζ y))
-          x )
+  fill {A} means rows η n m x = (
+    subst (λ (φ : Formula). means (rows n) φ η) (sym (form-of es ns tree n)) m,
+    parts-map (λ ζ ξ. ζ ≡ ξ) (λ ζ c. Filled-to means es ns rows (suc c) ζ c) (Filled-to means es ns rows n) η η (rows n) (rows n) (getD ns n nd.False)
+        (λ _. refl) (λ v _. refl)
+        (λ c nc ζ ξ e y. subst (λ (ω : Env A). Filled-to means es ns rows n ω c) e
+        (filled-with means means (λ V φ ω z. z) rows (suc c) n c (omega arith) (tree .lower n c nc) ζ y))
+        x,
+  )
 
   pub unfill : {A : Type 0} (means : Meaning A) (rows : ℕ → A) (η : Env A) (n : ℕ) → Filled-to means es ns rows (suc n) η n
       → Parts (λ ζ c. Filled-to means es ns rows (suc c) ζ c) η (rows n) (getD ns n nd.False)
   unfill {A} means rows η n x =
       parts-map (λ ζ ξ. ζ ≡ ξ) (Filled-to means es ns rows n) (λ ζ c. Filled-to means es ns rows (suc c) ζ c) η η (rows n) (rows n) (getD ns n nd.False)
-          (λ _. refl) (λ v _. refl)
-          (λ c nc ζ ξ e y. subst (λ (ω : Env A). Filled-to means es ns rows (suc c) ω c) e
-              (filled-with means means (λ V φ ω z. z) rows n (suc c) c (tree .lower n c nc) (omega arith) ζ y))
-          (x .1)
+      (λ _. refl) (λ v _. refl)
+      (λ c nc ζ ξ e y. subst (λ (ω : Env A). Filled-to means es ns rows (suc c) ω c) e
+      (filled-with means means (λ V φ ω z. z) rows n (suc c) c (tree .lower n c nc) (omega arith) ζ y))
+      (x .1)
 
 -- The meaning over a family takes the variables' sets only by what is in them.
 pub same-refl : (F : Family) (V : Pairs) → Same F V V
@@ -153,9 +156,10 @@ same-refl F V t q _ _ = (λ x. x, λ x. x)
 
 pub same-env : (F : Family) (φ : Formula) (η θ : Env Pairs) → Each (Same F) η θ
     → (s p : ℕ) → s < F .states → p < count F → Holds-for F φ η s p ↔ Holds-for F φ θ s p
-same-env F φ η θ h s p s< p< =
-    ( grows F φ η θ (λ w _ t q t< q<. h w t q t< q< .0) (λ w _ t q t< q<. h w t q t< q< .1) s p s< p<
-    , grows F φ θ η (λ w _ t q t< q<. h w t q t< q< .1) (λ w _ t q t< q<. h w t q t< q< .0) s p s< p< )
+same-env F φ η θ h s p s< p< = (
+  grows F φ η θ (λ w _ t q t< q<. h w t q t< q< .0) (λ w _ t q t< q<. h w t q t< q< .1) s p s< p<,
+  grows F φ θ η (λ w _ t q t< q<. h w t q t< q< .1) (λ w _ t q t< q<. h w t q t< q< .0) s p s< p<,
+)
 
 pub means-same : (F : Family) (V W : Pairs) (φ : Formula) (η θ : Env Pairs) → Same F V W → Each (Same F) η θ → Means F V φ η → Means F W φ θ
 means-same F V W φ η θ k h m t q t< q< =
@@ -193,5 +197,5 @@ module _ (F : Family) (es : List Expr) (ns : List Node) (tree : Tree ns) where
       → Means F (rows n) (as-formula (expression-at es) (formula-at es ns) x) η → Parts (Filled F es ns rows) η (rows n) x → Filled F es ns rows η n
   fill-as rows η n x e m p =
       fill es ns tree (Means F) rows η n
-          (subst (λ (y : Node). Means F (rows n) (as-formula (expression-at es) (formula-at es ns) y) η) (sym e) m)
-          (subst (λ (y : Node). Parts (Filled F es ns rows) η (rows n) y) (sym e) p)
+      (subst (λ (y : Node). Means F (rows n) (as-formula (expression-at es) (formula-at es ns) y) η) (sym e) m)
+      (subst (λ (y : Node). Parts (Filled F es ns rows) η (rows n) y) (sym e) p)

@@ -75,19 +75,20 @@ module _ (F : Family) (es : List Expr) (ns : List Node) (tree : Tree ns) where
       → Filled-to (Means F) es ns r k η c → Filled-to (Means F) es ns s k η c
   keep k c r s η c< h x =
       filled-map es ns tree (Means F) (Means F) (Same F) (means-same F) r s k k c c< c< η η (λ w. same-refl F (η w))
-          (λ m u. subst (λ (X : Pairs). Same F (r m) X) (h m u) (same-refl F (r m))) x
+      (λ m u. subst (λ (X : Pairs). Same F (r m) X) (h m u) (same-refl F (r m))) x
 
   -- Two parts, one after the other: nothing is under both.
   two : (k n c d : ℕ) (part : Env Pairs → Rows → ℕ → Rows) → c < k → Names c (getD ns n nd.False) → Names d (getD ns n nd.False) → ¬ (c ≡ d)
       → Done k part c → Done k part d → (η : Env Pairs) (rows : Rows)
       → let r = part η (part η rows c) d in
-        (Filled-to (Means F) es ns r k η c × Filled-to (Means F) es ns r k η d) × Frame n rows r
+      (Filled-to (Means F) es ns r k η c × Filled-to (Means F) es ns r k η d) × Frame n rows r
   two k n c d part c< nc md ne dc dd η rows =
       let r = part η rows c in
       let one = dc η rows in
-      let other = dd η r in
-      ( (keep k c r (part η r d) η c< (λ m u. sym (other .1 m (λ w. parts-apart ns tree n c d m nc md ne u w))) (one .0), other .0)
-      , λ m nu. part-frame n d r (part η r d) md (other .1) m nu ∙ part-frame n c rows r nc (one .1) m nu )
+      let other = dd η r in (
+        (keep k c r (part η r d) η c< (λ m u. sym (other .1 m (λ w. parts-apart ns tree n c d m nc md ne u w))) (one .0), other .0),
+        λ m nu. part-frame n d r (part η r d) md (other .1) m nu ∙ part-frame n c rows r nc (one .1) m nu,
+      )
 
   visited : (k n : ℕ) (part : Env Pairs → Rows → ℕ → Rows) → n < suc k → ((c : ℕ) → c < n → Done k part c) → (η : Env Pairs) (V : Pairs) (rows : Rows)
       → (x : Node) → getD ns n nd.False ≡ x
@@ -96,12 +97,14 @@ module _ (F : Family) (es : List Expr) (ns : List Node) (tree : Tree ns) where
     where
       named : (c : ℕ) (y : Node) → getD ns n nd.False ≡ y → Names c y → Names c (getD ns n nd.False)
       named c y q h = subst (λ (z : Node). Names c z) (sym q) h
+
       one : (c : ℕ) (y : Node) → getD ns n nd.False ≡ y → Names c y → (ζ : Env Pairs)
           → Filled-to (Means F) es ns (part ζ rows c) k ζ c × Frame n rows (part ζ rows c)
       one c y q h ζ =
           let nc = named c y q h in
           let d = ih c (tree .lower n c nc) ζ rows in
           (d .0, part-frame n c rows (part ζ rows c) nc (d .1))
+
       both : (c d : ℕ) (y : Node) → getD ns n nd.False ≡ y → Names c y → Names d y → ¬ (c ≡ d)
           → let r = part η (part η rows c) d in (Filled-to (Means F) es ns r k η c × Filled-to (Means F) es ns r k η d) × Frame n rows r
       both c d y q h g ne =
@@ -109,6 +112,7 @@ module _ (F : Family) (es : List Expr) (ns : List Node) (tree : Tree ns) where
           let md = named d y q g in
           let c< : c < n = tree .lower n c nc in
           two k n c d part (omega arith) nc md ne (ih c c<) (ih d (tree .lower n d md)) η rows
+
       go : (y : Node) → getD ns n nd.False ≡ y
           → Parts (Filled-to (Means F) es ns (visit part η V rows y) k) η V y × Frame n rows (visit part η V rows y)
       go nd.False q = (tt, λ m _. refl)
@@ -131,6 +135,7 @@ module _ (F : Family) (es : List Expr) (ns : List Node) (tree : Tree ns) where
       one c y q h ζ r =
           let c< : c < n = tree .lower n c (subst (λ (z : Node). Names c z) (sym q) h) in
           ih c c< ζ r .1 n (λ u. under-ne ns tree n c n c< u refl)
+
       go : (y : Node) → getD ns n nd.False ≡ y → visit part η V rows y n ≡ rows n
       go nd.False q = refl
       go nd.True q = refl
@@ -151,7 +156,10 @@ module _ (F : Family) (es : List Expr) (ns : List Node) (tree : Tree ns) where
       let x = getD ns n nd.False in
       let r = visit (spread F es ns k) η V (write rows n V) x in
       let v = visited k n (spread F es ns k) n< ih η V (write rows n V) x refl in
-      let at : r n ≡ V = kept n (write rows n V) (spread F es ns k) k ih η V x refl ∙ write-at rows n V in
-      ( ( subst (λ (X : Pairs). Means F X (formula-at es ns n) η) (sym at) (decided F (formula-at es ns n) (balanced-proper es ns ok (suc n) n) η)
-        , subst (λ (X : Pairs). Parts (Filled-to (Means F) es ns r k) η X x) (sym at) (v .0) )
-      , λ m nu. v .1 m nu ∙ write-off rows n V m (λ e. nu (subst (λ (z : ℕ). Under ns n z) (sym e) itself)) )
+      let at : r n ≡ V = kept n (write rows n V) (spread F es ns k) k ih η V x refl ∙ write-at rows n V in (
+        (
+          subst (λ (X : Pairs). Means F X (formula-at es ns n) η) (sym at) (decided F (formula-at es ns n) (balanced-proper es ns ok (suc n) n) η),
+          subst (λ (X : Pairs). Parts (Filled-to (Means F) es ns r k) η X x) (sym at) (v .0),
+        ),
+        λ m nu. v .1 m nu ∙ write-off rows n V m (λ e. nu (subst (λ (z : ℕ). Under ns n z) (sym e) itself)),
+      )

@@ -45,30 +45,36 @@ four ts = record { states = 4; products = 1 ∷ 2 ∷ 3 ∷ 0 ∷ []; transition
 
 abbrev pub six-transitions : Family
 six-transitions = four
-    ( transition 0 fill 1 0 0
+    (transition 0 fill 1 0 0
     ∷ transition 1 rennet 2 1 0
     ∷ transition 1 rennet 2 2 0
     ∷ transition 2 test 3 1 0
     ∷ transition 2 cut 0 2 0
     ∷ transition 3 cut 0 0 0
-    ∷ [] )
+    ∷ [])
 
 -- The same without the third transition.
 abbrev pub five-transitions : Family
 five-transitions = four
-    ( transition 0 fill 1 0 0
+    (transition 0 fill 1 0 0
     ∷ transition 1 rennet 2 1 0
     ∷ transition 2 test 3 1 0
     ∷ transition 2 cut 0 2 0
     ∷ transition 3 cut 0 0 0
-    ∷ [] )
+    ∷ [])
 
--- Modalities for every product, and the formulas of the examples.
+-- Modalities for every product, and the variables as formulas.
 abbrev pub may : ℕ → Formula → Formula
 may a φ = Formula.Diamond a Expression.True φ
 
 abbrev pub must : ℕ → Formula → Formula
 must a φ = Formula.Box a Expression.True φ
+
+abbrev pub in-X : Formula
+in-X = Formula.Variable X
+
+abbrev pub in-Y : Formula
+in-Y = Formula.Variable Y
 
 -- With hand there is a fill, or there is none.
 abbrev pub fills-by-hand : Formula
@@ -79,28 +85,23 @@ no-fill-by-hand = Formula.Box fill (Expression.Feature hand) Formula.False
 
 -- Some run comes to a cut.
 abbrev pub reaches-cut : Formula
-reaches-cut = Formula.Least X
-    (Formula.Or (Formula.Or (Formula.Or (may cut Formula.True) (may fill (Formula.Variable X))) (may rennet (Formula.Variable X))) (may test (Formula.Variable X)))
+reaches-cut = Formula.Least X (Formula.Or (Formula.Or (Formula.Or (may cut Formula.True) (may fill in-X)) (may rennet in-X)) (may test in-X))
+
+-- Every transition leads to where a formula holds.
+abbrev pub all-lead-to : Formula → Formula
+all-lead-to φ = Formula.And (Formula.And (Formula.And (must fill φ) (must rennet φ)) (must test φ)) (must cut φ)
 
 -- Never a cut right after the rennet.
 abbrev pub no-early-cut : Formula
-no-early-cut = Formula.Greatest X
-    (Formula.And
-        (Formula.And
-            (Formula.And (Formula.And (must fill (Formula.Variable X)) (must rennet (Formula.Variable X))) (must test (Formula.Variable X)))
-            (must cut (Formula.Variable X)))
-        (must rennet (must cut Formula.False)))
+no-early-cut = Formula.Greatest X (Formula.And (all-lead-to in-X) (must rennet (must cut Formula.False)))
 
 -- On every run without end there is a cut again and again.
 abbrev pub cuts-again : Formula
-cuts-again = Formula.Greatest X (Formula.Least Y
-    (Formula.And
-        (Formula.And (Formula.And (must fill (Formula.Variable Y)) (must rennet (Formula.Variable Y))) (must test (Formula.Variable Y)))
-        (must cut (Formula.Variable X))))
+cuts-again = Formula.Greatest X (Formula.Least Y (Formula.And (Formula.And (Formula.And (must fill in-Y) (must rennet in-Y)) (must test in-Y)) (must cut in-X)))
 
 -- A variable under two negations.
 abbrev pub not-nothing : Formula
-not-nothing = Formula.Not (Formula.Least X (Formula.Not (Formula.Not (Formula.Variable X))))
+not-nothing = Formula.Not (Formula.Least X (Formula.Not (Formula.Not in-X)))
 
 -- A digit says whether something holds: 1 that it does, 0 that it does not.
 abbrev pub Says : ℕ → Type 0 → Type 0
