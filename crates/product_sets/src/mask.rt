@@ -4,6 +4,8 @@ ghost use lib.Dec.{ltb};
 ghost use Rattle.families.specs.Bits.{bit};
 use crate::kind::Kind;
 
+const PLACES: usize = 64;
+
 #[derive(Clone, Copy)]
 pub struct Mask;
 
@@ -20,7 +22,7 @@ pub impl Kind for Mask as MaskKind {
     ghost means = { λ _ s p. ltb p 64 && bit (s .bits) p };
 
     fn places_count(&self) -> usize {
-        64
+        PLACES
     }
 
     fn none(&mut self) -> MaskSet {
@@ -28,7 +30,7 @@ pub impl Kind for Mask as MaskKind {
     }
 
     fn put(&mut self, s: MaskSet, place: usize) -> MaskSet {
-        if place < 64 {
+        if place < PLACES {
             MaskSet {
                 bits: s.bits | (1u64 << place),
             }
@@ -54,7 +56,7 @@ pub impl Kind for Mask as MaskKind {
     }
 
     fn has(&self, s: MaskSet, place: usize) -> bool {
-        place < 64 && (s.bits >> place) & 1 == 1
+        place < PLACES && (s.bits >> place) & 1 == 1
     }
 
     fn same(&self, a: MaskSet, b: MaskSet) -> bool {

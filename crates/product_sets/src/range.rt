@@ -7,6 +7,7 @@ ghost use lib.ListN.{take};
 ghost use Rattle.product_sets.specs.Turns.{member};
 ghost use Rattle.product_sets.specs.Combined.{combined};
 use crate::kind::Kind;
+use crate::turns::PLACES;
 use crate::turns::RangeSet;
 
 #[derive(Clone, Copy)]
@@ -38,7 +39,7 @@ fn merged(operation: Operation, a: &RangeSet, b: &RangeSet) -> RangeSet
     let mut i = 0;
     let mut j = 0;
     let mut place = a.next(0).min(b.next(0));
-    'merge: while place < 200 {
+    'merge: while place < PLACES {
         i = a.past(i, place);
         j = b.past(j, place);
         built.turn(place, operation.apply(i % 2 == 1, j % 2 == 1));
@@ -54,7 +55,7 @@ fn one(place: usize) -> RangeSet
 {
     let mut set = RangeSet::none();
     set.turn(place, true);
-    if place + 1 < 200 {
+    if place + 1 < PLACES {
         set.turn(place + 1, false);
     }
     set
@@ -71,7 +72,7 @@ pub impl Kind for Range as RangeKind {
     ghost means = { λ _ s p. ltb p 200 && member (take (s .count) (s .turns)) p };
 
     fn places_count(&self) -> usize {
-        200
+        PLACES
     }
 
     fn none(&mut self) -> RangeSet {
@@ -79,7 +80,7 @@ pub impl Kind for Range as RangeKind {
     }
 
     fn put(&mut self, s: RangeSet, place: usize) -> RangeSet {
-        if place < 200 {
+        if place < PLACES {
             merged(Operation::Join, &s, &one(place))
         } else {
             s
@@ -99,7 +100,7 @@ pub impl Kind for Range as RangeKind {
     }
 
     fn has(&self, s: RangeSet, place: usize) -> bool {
-        place < 200 && s.contains(place)
+        place < PLACES && s.contains(place)
     }
 
     fn same(&self, a: RangeSet, b: RangeSet) -> bool {

@@ -5,10 +5,12 @@ ghost use Prim.Native.Nat.{ℕ, _+_, _<_, _≤_};
 ghost use lib.ListN.{length, take};
 ghost use Rattle.product_sets.specs.Turns.{member, odd, next, Rising, Capped};
 
+pub(crate) const PLACES: usize = 200;
+
 // Membership starts from out, and turns at each of the first `count` places of `turns`.
 #[derive(Clone, Copy)]
 pub struct RangeSet {
-    turns: [u8; 200],
+    turns: [u8; PLACES],
     count: usize,
     ghost fits: { count ≤ length turns },
     ghost rising: { Rising turns count },
@@ -20,7 +22,7 @@ impl RangeSet {
         ensures { λ r. ⌜ r .count ≡ 0 ⌝ }
     {
         RangeSet {
-            turns: [0; 200],
+            turns: [0; PLACES],
             count: 0,
         }
     }
@@ -30,7 +32,7 @@ impl RangeSet {
         ensures { λ r. ⌜ ((p : ℕ) → member (take (r .count) (r .turns)) p ≡ true) ⌝ }
     {
         RangeSet {
-            turns: [0; 200],
+            turns: [0; PLACES],
             count: 1,
         }
     }
@@ -48,7 +50,7 @@ impl RangeSet {
         inside
     }
 
-    // Turning place number i, or 200 past the last.
+    // Turning place number i, or the count of places past the last.
     pub(crate) fn next(&self, i: usize) -> usize
         ensures { λ r. ⌜ r ≡ next (now (self .entry) .turns) (now (self .entry) .count) i ⌝ }
     {

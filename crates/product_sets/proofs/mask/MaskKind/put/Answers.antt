@@ -8,9 +8,9 @@ use Rattle.families.specs.Bits.{bit}
 use Rattle.product_sets.proofs.Digits.{bit-or, bit-one, cut-or, cut-swap}
 use Rattle.product_sets.proofs.mask.MaskKind.put.Needs as need
 
-pub returns-then-place-lt64 : need.returns-then-place-lt64
-returns-then-place-lt64 c =
-    let e : (1 * 2 ^ (c .args .place)) % 2 ^ 64 ≡ 2 ^ (c .args .place) = one-shl (c .args .place) 64 (c .if-place-lt64 .taken) in
+pub returns-then-place-lt-PLACES : need.returns-then-place-lt-PLACES
+returns-then-place-lt-PLACES c =
+    let e : (1 * 2 ^ (c .args .place)) % 2 ^ 64 ≡ 2 ^ (c .args .place) = one-shl (c .args .place) 64 (c .if-place-lt-PLACES .taken) in
     record {
       value = λ p.
           ap (λ x. ltb p 64 && x) (ap (λ x. bit (bitOr (c .args .s .bits) x) p) e ∙ bit-or (c .args .s .bits) (2 ^ (c .args .place)) p ∙ ap (λ x. bit (c .args .s .bits) p || x) (bit-one (c .args .place) p))
