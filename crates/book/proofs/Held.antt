@@ -14,7 +14,8 @@ use Rattle.std.proofs.shelf.Tests.{or-from, or-parts, or-cases, and-parts, and-
 use Rattle.std.proofs.shelf.Ways.{tells}
 use Rattle.families.specs.declared.Transition.{Transition}
 use Rattle.book.specs.Lists.{held, distinct, without, place-of}
-use Rattle.book.specs.Rules.{same-transition, transition-within, all-within}
+use Rattle.book.specs.Rules.{same-transition}
+use Rattle.families.specs.Families.{transition-within, all-within}
 
 module _ {X : Type 0} (same : X → X → Bool) where
   pub held-append : (x : X) (xs ys : List X) → held same x (xs ++ ys) ≡ (held same x xs || held same x ys)

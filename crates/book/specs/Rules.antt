@@ -3,24 +3,16 @@ use mathlib.Core.Path.{_≡_}
 use Prim.Native.Nat.{ℕ, _+_, _≤_}
 use mathlib.Core.Bool.{Bool, true, false, cond, _&&_}
 use mathlib.Core.List.{List, [], _∷_, _++_}
-use lib.Dec.{eqb, ltb, leb}
+use lib.Dec.{eqb, leb}
 use lib.ListN.{length}
 use Rattle.families.specs.declared.Transition.{Transition}
-use Rattle.families.specs.Families.{Family}
+use Rattle.families.specs.Families.{Family, transition-within, all-within}
 use Rattle.book.specs.Lists.{held, distinct, without}
 
 -- Two transitions are equal if all five fields are equal.
 abbrev pub same-transition : Transition → Transition → Bool
 same-transition a b =
     eqb (a .source) (b .source) && (eqb (a .action) (b .action) && (eqb (a .target) (b .target) && (eqb (a .required) (b .required) && eqb (a .excluded) (b .excluded))))
-
--- Source and target are states, and the action is at most 63.
-abbrev pub transition-within : ℕ → Transition → Bool
-transition-within s t = ltb (t .source) s && (ltb (t .target) s && leb (t .action) 63)
-
-abbrev pub all-within : ℕ → List Transition → Bool
-all-within s [] = true
-all-within s (t ∷ ts) = transition-within s t && all-within s ts
 
 -- The value of an answer with this number: v where it accepts, else 0.
 abbrev pub answered : ℕ → ℕ → ℕ × ℕ

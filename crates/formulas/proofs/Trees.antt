@@ -6,7 +6,7 @@ use mathlib.Core.List.{List}
 use native.Mathlib.Omega.{arith}
 use lib.ListN.{getD}
 use Rattle.formulas.specs.Trees.{Expression, Formula}
-use Rattle.formulas.specs.Tables.{as-expression, as-formula, expression-to, expression-at, formula-to, formula-at, Names, Under, itself, further, Tree}
+use Rattle.formulas.specs.Tables.{Part-of, as-expression, as-formula, expression-to, expression-at, formula-to, formula-at, Names, Under, itself, further, Tree}
 use Rattle.formulas.specs.declared.Expr.{Expr}
 use Rattle.formulas.specs.declared.Expr.the-variants as ex
 use Rattle.formulas.specs.declared.Node.{Node}
@@ -24,15 +24,6 @@ formula-same x f g (nd.Box a i c) h = ap (Formula.Box a (x i)) (h c refl)
 formula-same x f g (nd.Variable v) h = refl
 formula-same x f g (nd.Least v c) h = ap (Formula.Least v) (h c refl)
 formula-same x f g (nd.Greatest v c) h = ap (Formula.Greatest v) (h c refl)
-
--- An entry of an expression table names c as a part.
-abbrev pub Part-of : ℕ → Expr → Type 0
-Part-of c ex.False = ⊥
-Part-of c ex.True = ⊥
-Part-of c (ex.Feature k) = ⊥
-Part-of c (ex.Not d) = c ≡ d
-Part-of c (ex.Or d e) = (c ≡ d) ⊎ (c ≡ e)
-Part-of c (ex.And d e) = (c ≡ d) ⊎ (c ≡ e)
 
 expression-same : (f g : ℕ → Expression) (e : Expr) → ((c : ℕ) → Part-of c e → f c ≡ g c) → as-expression f e ≡ as-expression g e
 expression-same f g ex.False h = refl

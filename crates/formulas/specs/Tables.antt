@@ -1,5 +1,5 @@
 -- Tables of entries that name their parts by number: the tree that an entry stands for, and what it is for a table to be sound.
-use Prim.Native.Nat.{ℕ, zero, suc, _<_}
+use Prim.Native.Nat.{ℕ, zero, suc, _-_, _<_}
 use mathlib.Core.Logic.{_⊎_}
 use mathlib.Core.Path.{_≡_}
 use mathlib.Core.List.{List}
@@ -46,7 +46,19 @@ formula-to es ns (suc k) n = as-formula (expression-at es) (formula-to es ns k) 
 abbrev pub formula-at : List Expr → List Node → ℕ → Formula
 formula-at es ns n = formula-to es ns (suc n) n
 
--- An entry names c as a part.
+-- The last entry of a table, which is the whole.
+abbrev pub last : List Node → ℕ
+last ns = length ns - 1
+
+-- An entry of an expression table names c as a part, and so does an entry of a formula table.
+abbrev pub Part-of : ℕ → Expr → Type 0
+Part-of c ex.False = ⊥
+Part-of c ex.True = ⊥
+Part-of c (ex.Feature k) = ⊥
+Part-of c (ex.Not d) = c ≡ d
+Part-of c (ex.Or d e) = (c ≡ d) ⊎ (c ≡ e)
+Part-of c (ex.And d e) = (c ≡ d) ⊎ (c ≡ e)
+
 abbrev pub Names : ℕ → Node → Type 0
 Names c nd.False = ⊥
 Names c nd.True = ⊥

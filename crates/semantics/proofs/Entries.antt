@@ -8,10 +8,10 @@ use native.Mathlib.Omega.{arith}
 use lib.Dec.{T, lit<}
 use Rattle.families.specs.Families.{Family, config}
 use Rattle.families.specs.declared.Transition.{Transition}
-use Rattle.formulas.specs.Tables.{formula-at}
+use Rattle.formulas.specs.Tables.{formula-at, last}
 use Rattle.semantics.specs.Plain.{States, Env, Holds, Plain-means}
 use Rattle.semantics.specs.Meaning.{Pairs, Means, system-of, translated}
-use Rattle.semantics.specs.Entries.{no-pairs, no-states, last}
+use Rattle.semantics.specs.Entries.{no-pairs, no-states}
 use Rattle.semantics.specs.EntryLaws.{Balanced-proper, A-filling, One-filling, A-plain-filling, One-plain-filling, Columns, Entries-hold, Closed-entries, Extensional-filling, Extensional-entries, Columns-alike}
 use Rattle.formulas.proofs.Scope.{balanced-proper, bound-closed}
 use Rattle.semantics.proofs.Projection.{projects}

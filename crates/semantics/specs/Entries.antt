@@ -1,12 +1,12 @@
 -- The meaning of every entry of a table: of the whole, of its parts, of their parts and so on.
-use Prim.Native.Nat.{ℕ, zero, suc, _-_}
+use Prim.Native.Nat.{ℕ, zero, suc}
 use mathlib.Core.Bool.{false}
 use mathlib.Core.List.{List}
 use lib.Dec.{T}
-use lib.ListN.{length, getD}
+use lib.ListN.{getD}
 use Rattle.families.specs.Families.{Family}
 use Rattle.formulas.specs.Trees.{Formula}
-use Rattle.formulas.specs.Tables.{formula-at}
+use Rattle.formulas.specs.Tables.{formula-at, last}
 use Rattle.formulas.specs.declared.Expr.{Expr}
 use Rattle.formulas.specs.declared.Node.{Node}
 use Rattle.formulas.specs.declared.Node.the-variants as nd
@@ -47,10 +47,6 @@ no-pairs v s p = false
 
 abbrev pub no-states : Env States
 no-states v s = false
-
--- The last entry of a table, which is the whole.
-abbrev pub last : List Node → ℕ
-last ns = length ns - 1
 
 -- Entry n of the tables holds in state s by plain checking of one system and configuration: it is in row n of the meanings of the whole.
 abbrev pub Entry-holds : System → ℕ → List Expr → List Node → ℕ → ℕ → Type 0

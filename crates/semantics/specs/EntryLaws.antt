@@ -7,12 +7,12 @@ use lib.Dec.{T}
 use Rattle.families.specs.Families.{Family, Owns, count, config}
 use Rattle.families.specs.declared.Transition.{Transition}
 use Rattle.formulas.specs.Trees.{proper}
-use Rattle.formulas.specs.Tables.{formula-at, Under, Tree, Balanced, Bound}
+use Rattle.formulas.specs.Tables.{formula-at, Under, Tree, Balanced, Bound, last}
 use Rattle.formulas.specs.declared.Expr.{Expr}
 use Rattle.formulas.specs.declared.Node.{Node}
 use Rattle.semantics.specs.Plain.{States, Env, Holds}
 use Rattle.semantics.specs.Meaning.{Pairs, Same, system-of, projection, translated}
-use Rattle.semantics.specs.Entries.{Filled, Plain-filled, Entry-holds, no-pairs, no-states, last}
+use Rattle.semantics.specs.Entries.{Filled, Plain-filled, Entry-holds, no-pairs, no-states}
 use Rattle.semantics.specs.Laws.{Like}
 
 -- A table in which no variable is an odd number of negations below its fixpoint stands for proper formulas.

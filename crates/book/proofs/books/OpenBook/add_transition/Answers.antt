@@ -6,7 +6,8 @@ use native.Mathlib.Omega.{arith}
 use Rattle.std.specs.Of.Vec.{vec-items}
 use Rattle.std.proofs.shelf.Ways.{tells}
 use Rattle.book.specs.Lists.{distinct}
-use Rattle.book.specs.Rules.{same-transition, transition-within, all-within}
+use Rattle.book.specs.Rules.{same-transition}
+use Rattle.families.specs.Families.{transition-within, all-within}
 use Rattle.book.proofs.Held.{distinct-push, same-transition-swap, within-push, seen-gone, seen-held}
 use Rattle.book.proofs.books.OpenBook.add_transition.Needs as need
 

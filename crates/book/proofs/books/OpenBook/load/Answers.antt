@@ -8,7 +8,8 @@ use lib.ListN.{length, take}
 use Rattle.std.specs.Of.Vec.{vec-items, vec-len}
 use Rattle.std.proofs.shelf.Ways.{tells}
 use Rattle.book.specs.Lists.{distinct}
-use Rattle.book.specs.Rules.{same-transition, all-within}
+use Rattle.book.specs.Rules.{same-transition}
+use Rattle.families.specs.Families.{all-within}
 use Rattle.book.specs.Loads.{bad-length, stopped, going, after-records}
 use Rattle.book.specs.Contents.{contents}
 use Rattle.book.proofs.Loaded.{grown-entered, ends-there, goes-on, load-ends, load-refused, same-family}

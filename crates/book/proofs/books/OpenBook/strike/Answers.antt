@@ -6,7 +6,8 @@ use native.Mathlib.Omega.{arith}
 use Rattle.std.specs.Of.Vec.{vec-items, vec-len}
 use Rattle.std.proofs.shelf.Ways.{tells}
 use Rattle.book.specs.Lists.{distinct, without}
-use Rattle.book.specs.Rules.{same-transition, all-within}
+use Rattle.book.specs.Rules.{same-transition}
+use Rattle.families.specs.Families.{all-within}
 use Rattle.book.proofs.Held.{seen-gone, seen-held, seen-low, seen-without, without-absent, distinct-without, within-without}
 use Rattle.book.proofs.books.OpenBook.strike.Needs as need
 
