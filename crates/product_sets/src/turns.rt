@@ -57,7 +57,7 @@ impl RangeSet {
         if i < self.count {
             self.turns[i] as usize
         } else {
-            200
+            PLACES
         }
     }
 
