@@ -12,6 +12,8 @@ use Rattle.std.proofs.shelf.Lists.{take-more, take-more-set, getD-set-same, get
 use Rattle.std.proofs.shelf.Tests.{le-leb, lt-leb, both-ways, cases-order, cases-lt, cond-true, cond-false, lt-ltb, le-ltb}
 use Rattle.std.proofs.shelf.Ways.{tells}
 use Rattle.product_sets.specs.Turns.{member, odd, next, Rising, Capped}
+use Rattle.product_sets.specs.Combined.{combined}
+use Rattle.product_sets.specs.declared.range.Operation.{Operation}
 
 -- one more turning place at the end
 turn-turn : (b c t : Bool) → cond b (not (cond c (not t) t)) (cond c (not t) t) ≡ cond c (not (cond b (not t) t)) (cond b (not t) t)
@@ -103,6 +105,15 @@ next-rises xs n i r k h =
     elim (cases-lt (i + 1) n) [
       | inl l ↦ omega (arith, next-is xs n (i + 1) l, r i l)
       | inr g ↦ omega (arith, next-none xs n (i + 1) g, k i h)
+    ]
+
+-- one turn of a merge: below `place` all is as before, and from there on the sides and what is built are as said
+pub merged-step : (op : Operation) (place p : ℕ) (built built′ x l l′ y r r′ z : Bool) → built ≡ combined op l r → x ≡ combined op y z
+    → (p < place → (built′ ≡ built) × (l′ ≡ l) × (r′ ≡ r)) → (place ≤ p → (built′ ≡ x) × (l′ ≡ y) × (r′ ≡ z)) → built′ ≡ combined op l′ r′
+merged-step op place p built built′ x l l′ y r r′ z e f before after =
+    elim (cases-lt p place) [
+      | inl h ↦ let k = before h in cc
+      | inr h ↦ let k = after h in cc
     ]
 
 -- rising lists that turn alike are equal

@@ -3,12 +3,16 @@ use Prim.Native.Nat.{ℕ, _+_, _%_, _<_}
 use mathlib.Core.Bool.{Bool, false, not, cond}
 use mathlib.Core.List.{List, [], _∷_}
 use lib.Dec.{leb, ltb, eqb}
-use lib.ListN.{getD}
+use lib.ListN.{getD, take}
 
 -- Starting from out, membership of p turns at each place of the list up to p.
 abbrev pub member : List ℕ → ℕ → Bool
 member [] p = false
 member (t ∷ ts) p = cond (leb t p) (not (member ts p)) (member ts p)
+
+-- Membership of p by the first n turning places of a list.
+abbrev pub turned : List ℕ → ℕ → ℕ → Bool
+turned xs n p = member (take n xs) p
 
 -- The first n places of a list rise strictly.
 abbrev pub Rising : List ℕ → ℕ → Type 0

@@ -9,6 +9,7 @@ const PLACES: usize = 64;
 #[derive(Clone, Copy)]
 pub struct Mask;
 
+// Place p is in exactly if bit p is 1.
 #[derive(Clone, Copy)]
 pub struct MaskSet {
     bits: u64,

@@ -3,8 +3,7 @@ ghost use mathlib.Core.Path.{_≡_};
 ghost use mathlib.Core.Bool.{_&&_};
 ghost use Prim.Native.Nat.{ℕ, _<_};
 ghost use lib.Dec.{ltb, eqb};
-ghost use lib.ListN.{take};
-ghost use Rattle.product_sets.specs.Turns.{member};
+ghost use Rattle.product_sets.specs.Turns.{turned};
 ghost use Rattle.product_sets.specs.Combined.{combined};
 use crate::kind::Kind;
 use crate::turns::PLACES;
@@ -33,7 +32,7 @@ impl Operation {
 // One pass through both lists of turning places: each turn of the loop takes the smaller next place, on both sides
 // where they are equal. After i turns of a set membership is in exactly if i is odd.
 fn merged(operation: Operation, a: &RangeSet, b: &RangeSet) -> RangeSet
-    ensures { λ r. ⌜ ((p : ℕ) → member (take (r .count) (r .turns)) p ≡ combined operation (member (take (now (a .entry) .count) (now (a .entry) .turns)) p) (member (take (now (b .entry) .count) (now (b .entry) .turns)) p)) ⌝ }
+    ensures { λ r. ⌜ ((p : ℕ) → turned (r .turns) (r .count) p ≡ combined operation (turned (now (a .entry) .turns) (now (a .entry) .count) p) (turned (now (b .entry) .turns) (now (b .entry) .count) p)) ⌝ }
 {
     let mut built = RangeSet::none();
     let mut i = 0;
@@ -51,7 +50,7 @@ fn merged(operation: Operation, a: &RangeSet, b: &RangeSet) -> RangeSet
 // The set of one place.
 fn one(place: usize) -> RangeSet
     requires { ⌜ place < 200 ⌝ }
-    ensures { λ r. ⌜ ((p : ℕ) → p < 200 → member (take (r .count) (r .turns)) p ≡ eqb p place) ⌝ }
+    ensures { λ r. ⌜ ((p : ℕ) → p < 200 → turned (r .turns) (r .count) p ≡ eqb p place) ⌝ }
 {
     let mut set = RangeSet::none();
     set.turn(place, true);
@@ -69,7 +68,7 @@ pub impl Kind for Range as RangeKind {
 
     ghost places = { 200 };
 
-    ghost means = { λ _ s p. ltb p 200 && member (take (s .count) (s .turns)) p };
+    ghost means = { λ _ s p. ltb p 200 && turned (s .turns) (s .count) p };
 
     fn places_count(&self) -> usize {
         PLACES

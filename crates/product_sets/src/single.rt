@@ -1,4 +1,4 @@
-// The single kind: one place.
+// The single kind: one place, which a set has or has not.
 ghost use mathlib.Core.Bool.{_&&_};
 ghost use lib.Dec.{eqb};
 use crate::kind::Kind;

@@ -3,7 +3,7 @@ ghost use mathlib.Core.Path.{_≡_};
 ghost use mathlib.Core.Bool.{Bool, true, false};
 ghost use Prim.Native.Nat.{ℕ, _+_, _<_, _≤_};
 ghost use lib.ListN.{length, take};
-ghost use Rattle.product_sets.specs.Turns.{member, odd, next, Rising, Capped};
+ghost use Rattle.product_sets.specs.Turns.{turned, odd, next, Rising, Capped};
 
 pub(crate) const PLACES: usize = 200;
 
@@ -29,7 +29,7 @@ impl RangeSet {
 
     // The set of all places: it turns at 0 and stays in.
     pub(crate) fn all() -> RangeSet
-        ensures { λ r. ⌜ ((p : ℕ) → member (take (r .count) (r .turns)) p ≡ true) ⌝ }
+        ensures { λ r. ⌜ ((p : ℕ) → turned (r .turns) (r .count) p ≡ true) ⌝ }
     {
         RangeSet {
             turns: [0; PLACES],
@@ -39,7 +39,7 @@ impl RangeSet {
 
     // Whether a place is in: membership turns at each turning place up to it.
     pub(crate) fn contains(&self, place: usize) -> bool
-        ensures { λ r. ⌜ r ≡ member (take (now (self .entry) .count) (now (self .entry) .turns)) place ⌝ }
+        ensures { λ r. ⌜ r ≡ turned (now (self .entry) .turns) (now (self .entry) .count) place ⌝ }
     {
         let mut inside = false;
         for i in 0..self.count {
@@ -57,7 +57,7 @@ impl RangeSet {
         if i < self.count {
             self.turns[i] as usize
         } else {
-            200
+            PLACES
         }
     }
 
@@ -70,8 +70,8 @@ impl RangeSet {
         ensures within { λ r. ⌜ (i ≤ r) × (r ≤ now (self .entry) .count) ⌝ }
         ensures taken { λ r. ⌜ Capped (now (self .entry) .turns) r (place + 1) ⌝ }
         ensures ahead { λ r. ⌜ place < next (now (self .entry) .turns) (now (self .entry) .count) r ⌝ }
-        ensures before { λ r. ⌜ ((p : ℕ) → p < place → member (take r (now (self .entry) .turns)) p ≡ member (take i (now (self .entry) .turns)) p) ⌝ }
-        ensures after { λ r. ⌜ ((p : ℕ) → place ≤ p → member (take r (now (self .entry) .turns)) p ≡ odd r) ⌝ }
+        ensures before { λ r. ⌜ ((p : ℕ) → p < place → turned (now (self .entry) .turns) r p ≡ turned (now (self .entry) .turns) i p) ⌝ }
+        ensures after { λ r. ⌜ ((p : ℕ) → place ≤ p → turned (now (self .entry) .turns) r p ≡ odd r) ⌝ }
     {
         if self.next(i) == place { i + 1 } else { i }
     }
@@ -81,8 +81,8 @@ impl RangeSet {
         requires taken { ⌜ Capped (now self .turns) (now self .count) place ⌝ }
         requires low { ⌜ place < 200 ⌝ }
         ensures taken { λ _. ⌜ Capped (now (self .exit) .turns) (now (self .exit) .count) (place + 1) ⌝ }
-        ensures before { λ _. ⌜ ((p : ℕ) → p < place → member (take (now (self .exit) .count) (now (self .exit) .turns)) p ≡ member (take (now (self .entry) .count) (now (self .entry) .turns)) p) ⌝ }
-        ensures after { λ _. ⌜ ((p : ℕ) → place ≤ p → member (take (now (self .exit) .count) (now (self .exit) .turns)) p ≡ inside) ⌝ }
+        ensures before { λ _. ⌜ ((p : ℕ) → p < place → turned (now (self .exit) .turns) (now (self .exit) .count) p ≡ turned (now (self .entry) .turns) (now (self .entry) .count) p) ⌝ }
+        ensures after { λ _. ⌜ ((p : ℕ) → place ≤ p → turned (now (self .exit) .turns) (now (self .exit) .count) p ≡ inside) ⌝ }
     {
         if (self.count % 2 == 1) != inside {
             self.turns[self.count] = place as u8;
