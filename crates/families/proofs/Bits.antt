@@ -54,10 +54,10 @@ bits-same zero a b p q h = omega arith
 bits-same (suc w) a b p q h =
     let e = pow-suc 2 w in
     let halves : a / 2 ≡ b / 2 =
-        bits-same w (a / 2) (b / 2) (omega arith) (omega arith)
-            (λ k k<. subst₂′ (bit-half a k) (bit-half b k) (h (suc k) (omega arith))) in
+    bits-same w (a / 2) (b / 2) (omega arith) (omega arith)
+    (λ k k<. subst₂′ (bit-half a k) (bit-half b k) (h (suc k) (omega arith))) in
     let low : a % 2 ≡ b % 2 = same-digit (a % 2) (b % 2) (two a) (two b)
-        (subst₂′ (ap (λ (n : ℕ). eqb (n % 2) 1) (div-one a)) (ap (λ (n : ℕ). eqb (n % 2) 1) (div-one b)) (h 0 (omega arith))) in
+    (subst₂′ (ap (λ (n : ℕ). eqb (n % 2) 1) (div-one a)) (ap (λ (n : ℕ). eqb (n % 2) 1) (div-one b)) (h 0 (omega arith))) in
     omega arith
   where
     subst₂′ : {x y u v : Bool} → x ≡ y → u ≡ v → T x ↔ T u → T y ↔ T v
@@ -70,17 +70,21 @@ nothing-bit k t =
 -- A set of features lies within a configuration, by masks.
 pub required-mask : (c r : ℕ) → c < 2 ^ 16 → r < 2 ^ 16
     → (bitAnd c r ≡ r) ↔ ((k : ℕ) → k < 16 → T (bit r k) → T (bit c k))
-required-mask c r c< r< =
-    ( λ e k k< t. and-split (bit c k) (bit r k) (subst T (ap (λ (n : ℕ). bit n k) (sym e) ∙ bit-and c r k) t) .0
-    , λ m. bits-same 16 (bitAnd c r) r (and-lt 16 c r c< r<) r< (λ k k<.
-        ( λ t. and-split (bit c k) (bit r k) (subst T (bit-and c r k) t) .1
-        , λ t. subst T (sym (bit-and c r k)) (and-both (bit c k) (bit r k) (m k k< t) t) )) )
+required-mask c r c< r< = (
+  λ e k k< t. and-split (bit c k) (bit r k) (subst T (ap (λ (n : ℕ). bit n k) (sym e) ∙ bit-and c r k) t) .0,
+  λ m. bits-same 16 (bitAnd c r) r (and-lt 16 c r c< r<) r< (λ k k<. (
+    λ t. and-split (bit c k) (bit r k) (subst T (bit-and c r k) t) .1,
+    λ t. subst T (sym (bit-and c r k)) (and-both (bit c k) (bit r k) (m k k< t) t),
+  )),
+)
 
 -- A set of features and a configuration have none in common, by masks.
 pub excluded-mask : (c x : ℕ) → c < 2 ^ 16 → x < 2 ^ 16
     → (bitAnd c x ≡ 0) ↔ ((k : ℕ) → k < 16 → T (bit x k) → T (bit c k) → ⊥)
-excluded-mask c x c< x< =
-    ( λ e k k< t u. nothing-bit k (subst T (sym (bit-and c x k) ∙ ap (λ (n : ℕ). bit n k) e) (and-both (bit c k) (bit x k) u t))
-    , λ m. bits-same 16 (bitAnd c x) 0 (and-lt 16 c x c< x<) (lit< tt) (λ k k<.
-        ( λ t. (let y = and-split (bit c k) (bit x k) (subst T (bit-and c x k) t) in absurd (m k k< (y .1) (y .0)))
-        , λ t. absurd (nothing-bit k t) )) )
+excluded-mask c x c< x< = (
+  λ e k k< t u. nothing-bit k (subst T (sym (bit-and c x k) ∙ ap (λ (n : ℕ). bit n k) e) (and-both (bit c k) (bit x k) u t)),
+  λ m. bits-same 16 (bitAnd c x) 0 (and-lt 16 c x c< x<) (lit< tt) (λ k k<. (
+    λ t. (let y = and-split (bit c k) (bit x k) (subst T (bit-and c x k) t) in absurd (m k k< (y .1) (y .0))),
+    λ t. absurd (nothing-bit k t),
+  )),
+)

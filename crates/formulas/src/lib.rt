@@ -22,8 +22,16 @@ pub enum Node {
     Not(usize),
     Or(usize, usize),
     And(usize, usize),
-    Diamond { action: u8, expr: usize, part: usize },
-    Box { action: u8, expr: usize, part: usize },
+    Diamond {
+        action: u8,
+        expr: usize,
+        part: usize,
+    },
+    Box {
+        action: u8,
+        expr: usize,
+        part: usize,
+    },
     Variable(u8),
     Least(u8, usize),
     Greatest(u8, usize),
