@@ -20,11 +20,15 @@ pub record Run (w : List ℕ) : Type 0 where
   pub first : asciiLower (getD w 0 0) ≡ true
   pub rest : All (λ b. in-name b ≡ true) w
 
+-- None of the four words.
+abbrev pub NoWord : List ℕ → Type 0
+NoWord w = (w ≡ codes "mu" → ⊥) × (w ≡ codes "nu" → ⊥) × (w ≡ codes "true" → ⊥) × (w ≡ codes "false" → ⊥)
+
 -- A name: at most 12 bytes, and none of the four words.
 pub record Name (w : List ℕ) : Type 0 where
   pub run : Run w
   pub short : length w ≤ 12
-  pub no-word : (w ≡ codes "mu" → ⊥) × (w ≡ codes "nu" → ⊥) × (w ≡ codes "true" → ⊥) × (w ≡ codes "false" → ⊥)
+  pub no-word : NoWord w
 
 -- A token of the language: a name by its bytes, a variable by its number, or a sign.
 pub data Sym : Type 0 where

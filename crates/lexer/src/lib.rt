@@ -5,7 +5,7 @@ ghost use Prim.Native.Nat.{ℕ, _+_, _≤_, _<_};
 ghost use lib.Dec.{T};
 ghost use lib.ListN.{length, getD};
 ghost use Rattle.std.specs.shelf.Text.{sameBytes};
-ghost use Rattle.lexer.specs.Tokens.{Name, in-name};
+ghost use Rattle.lexer.specs.Tokens.{Name, NoWord, in-name};
 ghost use Rattle.lexer.specs.Cuts.{past-spaces, past-name, word-of, sym-of, seen, first-at, cut-at, Onward, Placed};
 
 // The tokens that are always spelled alike: `mu nu true false ! && || | < > [ ] ( ) .`
@@ -153,5 +153,28 @@ pub fn next_token<'a>(text: &'a [u8], from: usize) -> Cut<'a>
         first_token(text, at)
     } else {
         Cut::End(at)
+    }
+}
+
+// Whether bytes are a name.
+pub fn is_name(bytes: &[u8]) -> bool
+    ensures { λ r. ⌜ T r ↔ Name (now (bytes .entry)) ⌝ }
+{
+    if bytes.len() > 12 || past_name(bytes, 0) < bytes.len() {
+        return false;
+    }
+    match byte_at(bytes, 0) as char {
+        'a'..='z' => is_no_word(bytes),
+        _ => false,
+    }
+}
+
+fn is_no_word(bytes: &[u8]) -> bool
+    ensures { λ r. ⌜ T r ↔ NoWord (now (bytes .entry)) ⌝ }
+{
+    match word(bytes, 0) {
+        Token::Name(_name, _place) => true,
+        Token::Variable(_v) => false,
+        Token::Sign(_sign) => false,
     }
 }
