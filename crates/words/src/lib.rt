@@ -4,7 +4,7 @@ ghost use mathlib.Core.Logic.{_↔_};
 ghost use mathlib.Core.List.{List};
 ghost use Prim.Native.Nat.{ℕ, _+_, _≤_, _<_};
 ghost use lib.Dec.{T};
-ghost use lib.ListN.{length, drop};
+ghost use lib.ListN.{length, getD, drop};
 ghost use Rattle.std.specs.shelf.Lists.{leading};
 ghost use Rattle.words.specs.Words.{inside, Lines, WordList, InForm, number, LookedUp};
 use lexer::is_name;
@@ -14,6 +14,7 @@ fn line_end(list: &[u8], from: usize) -> usize
     requires { ⌜ from ≤ length (now list) ⌝ }
     ensures value { λ r. ⌜ r ≡ from + leading inside (drop from (now (list .entry))) ⌝ }
     ensures within { λ r. ⌜ r ≤ length (now (list .entry)) ⌝ }
+    ensures ten { λ r. ⌜ (r < length (now (list .entry)) → getD (now (list .entry)) r 0 ≡ 10) ⌝ }
 {
     let mut at = from;
     while at < list.len() && list[at] != b'\n' {
@@ -64,5 +65,9 @@ pub fn keeps_form(list: &[u8], limit: u8) -> bool
 pub fn lookup(list: &[u8], limit: u8, name: &[u8]) -> Option<u8>
     ensures { λ r. ⌜ LookedUp limit (now (list .entry)) (now (name .entry)) r ⌝ }
 {
-    if keeps_form(list, limit) { find(list, name) } else { None }
+    if keeps_form(list, limit) {
+        find(list, name)
+    } else {
+        None
+    }
 }

@@ -13,12 +13,14 @@ lower : (b : ℕ) → 97 ≤ b → b < 123 → asciiLower b ≡ true
 lower b lo hi = grind (arith, tells)
 
 pub returns-then-bytes-gt12 : need.returns-then-bytes-gt12
-returns-then-bytes-gt12 c =
-    (λ h. absurd h, λ n.
-        elim (c .then-bytes-gt12 .came) [
-          then-bytes-gt12·by·then-bytes-gt12 w ↦ omega (arith, n .short, w .if-bytes-gt12 .taken)
+returns-then-bytes-gt12 c = (
+  λ h. absurd h,
+  λ n.
+      elim (c .then-bytes-gt12 .came) [
+        | then-bytes-gt12·by·then-bytes-gt12 w ↦ omega (arith, n .short, w .if-bytes-gt12 .taken)
         | then-bytes-gt12·by·else-bytes-gt12·then-past-name-bytes w ↦ omega (arith, all-leading in-name (c .args .bytes .now) (n .run .rest), w .past-name .ensures .value, w .if-past-name-bytes .taken)
-        ])
+      ],
+)
 
 pub returns-in-a-to-z : need.returns-in-a-to-z
 returns-in-a-to-z c =
