@@ -80,7 +80,7 @@ whole-from n ih l k ps qs ts le h =
       on = f .on;
     }
 
-closing-is : (m : Modality) → sign-of (inner-of m) ≡ closing m
+pub closing-is : (m : Modality) → sign-of (inner-of m) ≡ closing m
 closing-is diamond = refl
 closing-is box = refl
 
