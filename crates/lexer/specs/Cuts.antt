@@ -9,7 +9,7 @@ use lib.ListN.{length, getD, drop}
 use Rattle.std.specs.Text.{asciiLower, asciiUpper}
 use Rattle.std.specs.shelf.Text.{sameBytes}
 use Rattle.std.specs.shelf.Lists.{leading, between}
-use Rattle.lexer.specs.Tokens.{Sym, name, variable, sign, in-name}
+use Rattle.lexer.specs.Tokens.{Sym, name, variable, sign, in-name, spell, Spaces, Longest, Bad}
 use Rattle.lexer.specs.declared.Token.{Token}
 use Rattle.lexer.specs.declared.Token.the-variants as tk
 use Rattle.lexer.specs.declared.Cut.{Cut}
@@ -83,3 +83,9 @@ first-at bs at =
 -- The token from the place i on, past spaces.
 abbrev pub cut-at : List ℕ → ℕ → Seen
 cut-at bs i = cond (ltb (past-spaces bs i) (length bs)) (first-at bs (past-spaces bs i)) (end (past-spaces bs i))
+
+-- What is found is the longest token past the spaces; at a bad place no token begins, or a name that is too long.
+abbrev pub Lawful : List ℕ → ℕ → Seen → Type 0
+Lawful bs i (found s p j) = Spaces bs i p × Longest bs p s × (j ≡ p + length (spell s))
+Lawful bs i (end p) = i ≤ length bs → Spaces bs i (length bs)
+Lawful bs i (bad p) = Spaces bs i p × (p < length bs) × (getD bs p 0 ≡ 32 → ⊥) × Bad bs p

@@ -6,7 +6,7 @@ ghost use lib.Dec.{T};
 ghost use lib.ListN.{length, getD};
 ghost use Rattle.std.specs.shelf.Text.{sameBytes};
 ghost use Rattle.lexer.specs.Tokens.{Name, NoWord, in-name};
-ghost use Rattle.lexer.specs.Cuts.{past-spaces, past-name, word-of, sym-of, seen, first-at, cut-at, Onward, Placed};
+ghost use Rattle.lexer.specs.Cuts.{past-spaces, past-name, word-of, sym-of, seen, first-at, cut-at, Onward, Placed, Lawful};
 
 // The tokens that are always spelled alike: `mu nu true false ! && || | < > [ ] ( ) .`
 #[derive(Clone, Copy, PartialEq, Eq)]
@@ -145,6 +145,7 @@ fn first_token<'a>(text: &'a [u8], at: usize) -> Cut<'a>
 
 // The token that comes next from a place on, with spaces skipped.
 pub fn next_token<'a>(text: &'a [u8], from: usize) -> Cut<'a>
+    ensures longest { λ r. ⌜ Lawful (now (text .entry)) from (seen r) ⌝ }
     ensures value { λ r. ⌜ seen r ≡ cut-at (now (text .entry)) from ⌝ }
     ensures onward { λ r. ⌜ Onward r from (length (now (text .entry))) ⌝ }
 {

@@ -1,12 +1,15 @@
 // Reads a formula text into an expression table and a formula table.
 ghost use mathlib.Core.Path.{_≡_};
 ghost use Prim.Native.Nat.{ℕ, _+_, _≤_, _<_};
-ghost use lib.ListN.{length};
+ghost use lib.ListN.{length, replicate};
 ghost use mathlib.Core.List.{List, [], _∷_};
 ghost use Rattle.grammar.specs.Grammar.{Tok, formula as at-formula, expression as at-expression, Modality, closing, UnitOf, AndPartOf, PhraseOf};
 ghost use Rattle.grammar.specs.Machine.{Inner, sign-of, unit as a-unit, and-tail, or-tail, Any, Not-next, Stops};
 ghost use Rattle.lexer.specs.declared.Sign.the-variants.{And};
-ghost use Rattle.reader.specs.Numbering.{Tables, put-node, put-expr, last, or-0};
+ghost use Rattle.reader.specs.Numbering.{Tables, none-entered, put-node, put-expr, or-0};
+ghost use Rattle.reader.specs.Outcome.{Lexed, Ready, Parsed, Judged, Attempted, Reading, refusal-number, refusal-value};
+ghost use Rattle.formulas.specs.declared.Expr.the-variants as ex;
+ghost use Rattle.formulas.specs.declared.Node.the-variants as nd;
 ghost use Rattle.reader.specs.Reading.{Source, State, Inside, Keeps, Onto, Enters, Reads, Expects, Variables, Actions, Heads, Modals, Next, Notes};
 use formulas::Expr;
 use formulas::Node;
@@ -15,6 +18,7 @@ use lexer::Sign;
 use lexer::SignPartialEq;
 use lexer::Token;
 use lexer::next_token;
+use words::keeps_form;
 use words::lookup;
 
 // A reader at a place of the text. It writes entries while there is room and counts on past it; `unknown` is the
@@ -330,6 +334,160 @@ impl<'t, 'a, 'f, 'e, 'n> Reader<'t, 'a, 'f, 'e, 'n> {
             }
             Cut::End(place) => Err(place),
             Cut::Bad(place) => Err(place),
+        }
+    }
+
+    // A formula and then the text's end: how many formula entries it has.
+    fn whole(&mut self) -> Result<usize, Refusal>
+        requires { ⌜ Inside (now self) ⌝ }
+        ensures nodes { λ r. ⌜ now (self .exit) .nodes .name ≡ now (self .entry) .nodes .name ⌝ }
+        ensures exprs { λ r. ⌜ now (self .exit) .exprs .name ≡ now (self .entry) .exprs .name ⌝ }
+        ensures parses { λ r. ⌜ ((x : Source) (ts : List Tok) → State x (now (self .entry)) ts none-entered → Parsed x ts (now (now (self .exit) .exprs)) (now (now (self .exit) .nodes)) r) ⌝ }
+    {
+        match self.formula() {
+            Ok(_n) => match next_token(self.text, self.at) {
+                Cut::Found(_token, start, _on) => Err(Refusal::NoFormula(start)),
+                Cut::End(_place) => self.verdict(),
+                Cut::Bad(place) => Err(Refusal::NoFormula(place)),
+            },
+            Err(place) => Err(Refusal::NoFormula(place)),
+        }
+    }
+
+    // What is wrong with a formula whose tokens are in order.
+    fn verdict(&self) -> Result<usize, Refusal>
+        ensures { λ r. ⌜ ((x : Source) (ts : List Tok) (t : Tables) → State x (now (self .entry)) ts t → Judged t r) ⌝ }
+    {
+        if let Some(place) = self.unknown {
+            return Err(Refusal::UnknownName(place));
+        }
+        if self.node_count > 64 || self.expr_count > 64 {
+            return Err(Refusal::TooManyEntries);
+        }
+        Ok(self.node_count)
+    }
+}
+
+// Why a text is refused.
+#[derive(Clone, Copy)]
+enum Refusal {
+    LongText,
+    WordList,
+    NoToken(usize),
+    NoFormula(usize),
+    UnknownName(usize),
+    TooManyEntries,
+}
+
+impl Refusal {
+    // The refusal's number and its value, which is a place in the text if it has one.
+    fn answer(self) -> (u8, usize)
+        ensures number { λ r. ⌜ r .0 ≡ refusal-number self ⌝ }
+        ensures value { λ r. ⌜ r .1 ≡ refusal-value self ⌝ }
+    {
+        match self {
+            Refusal::LongText => (20, 0),
+            Refusal::WordList => (21, 0),
+            Refusal::NoToken(place) => (22, place),
+            Refusal::NoFormula(place) => (23, place),
+            Refusal::UnknownName(place) => (24, place),
+            Refusal::TooManyEntries => (25, 0),
+        }
+    }
+}
+
+// The first place where no token begins, or a name that is too long.
+fn first_bad(text: &[u8]) -> Option<usize>
+    ensures { λ r. ⌜ Lexed (now (text .entry)) r ⌝ }
+{
+    let mut at = 0;
+    loop {
+        match next_token(text, at) {
+            Cut::Found(_token, _start, on) => at = on,
+            Cut::End(_place) => return None,
+            Cut::Bad(place) => return Some(place),
+        }
+    }
+}
+
+// Reads a text that falls into tokens into tables that are all false.
+fn parse(
+    text: &[u8],
+    actions: &[u8],
+    features: &[u8],
+    exprs: &mut [Expr],
+    nodes: &mut [Node],
+) -> Result<usize, Refusal>
+    ensures { λ r. ⌜ ((x : Source) (ts : List Tok) → Ready x ts (now (text .entry)) (now (actions .entry)) (now (features .entry)) (now (exprs .entry)) (now (nodes .entry)) → Parsed x ts (now (exprs .exit)) (now (nodes .exit)) r) ⌝ }
+{
+    let mut reader = Reader {
+        text,
+        actions,
+        features,
+        exprs,
+        nodes,
+        at: 0,
+        expr_count: 0,
+        node_count: 0,
+        unknown: None,
+    };
+    reader.whole()
+}
+
+// Tries to read a text into tables that are all false.
+fn attempt(
+    text: &[u8],
+    actions: &[u8],
+    features: &[u8],
+    exprs: &mut [Expr],
+    nodes: &mut [Node],
+) -> Result<usize, Refusal>
+    requires exprs { ⌜ now exprs ≡ replicate (length (now exprs)) ex.False ⌝ }
+    requires nodes { ⌜ now nodes ≡ replicate (length (now nodes)) nd.False ⌝ }
+    requires room { ⌜ (64 ≤ length (now exprs)) × (64 ≤ length (now nodes)) ⌝ }
+    ensures { λ r. ⌜ Attempted (now (text .entry)) (now (actions .entry)) (now (features .entry)) (length (now (exprs .entry))) (length (now (nodes .entry))) (now (exprs .exit)) (now (nodes .exit)) r ⌝ }
+{
+    if text.len() > 1024 {
+        return Err(Refusal::LongText);
+    }
+    if !keeps_form(actions, 64) || !keeps_form(features, 16) {
+        return Err(Refusal::WordList);
+    }
+    if let Some(place) = first_bad(text) {
+        return Err(Refusal::NoToken(place));
+    }
+    parse(text, actions, features, exprs, nodes)
+}
+
+// Makes every entry of both tables false.
+fn clear(exprs: &mut [Expr], nodes: &mut [Node])
+    ensures exprs { λ _. ⌜ now (exprs .exit) ≡ replicate (length (now (exprs .entry))) ex.False ⌝ }
+    ensures nodes { λ _. ⌜ now (nodes .exit) ≡ replicate (length (now (nodes .entry))) nd.False ⌝ }
+{
+    exprs.fill(Expr::False);
+    nodes.fill(Node::False);
+}
+
+// Reads a formula text into both tables, with the names of two word lists. The answer is 0 and the count of formula
+// entries, or the number of a refusal, 19 to 25, and its value.
+pub fn read(
+    text: &[u8],
+    actions: &[u8],
+    features: &[u8],
+    exprs: &mut [Expr],
+    nodes: &mut [Node],
+) -> (u8, usize)
+    ensures { λ r. ⌜ Reading (now (text .entry)) (now (actions .entry)) (now (features .entry)) (now (exprs .entry)) (now (nodes .entry)) (r .0) (r .1) (now (exprs .exit)) (now (nodes .exit)) ⌝ }
+{
+    if exprs.len() < 64 || nodes.len() < 64 {
+        return (19, 0);
+    }
+    clear(exprs, nodes);
+    match attempt(text, actions, features, exprs, nodes) {
+        Ok(count) => (0, count),
+        Err(refusal) => {
+            clear(exprs, nodes);
+            refusal.answer()
         }
     }
 }
