@@ -1,0 +1,4 @@
+pub mod Signs
+pub mod Complete
+pub mod Sound
+pub mod Prefix

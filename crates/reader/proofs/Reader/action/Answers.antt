@@ -1,0 +1,35 @@
+use mathlib.Core.Path.{_≡_, refl, sym, _∙_, ap, subst}
+use mathlib.Core.List.{[], _∷_}
+use borrow.Author.Needs.{needs}
+use Rattle.lexer.specs.Tokens.{name, variable, sign}
+use Rattle.lexer.specs.Cuts.{sym-of, found, Placed}
+use Rattle.words.specs.Words.{WordList, number}
+use Rattle.grammar.specs.Machine.{an-action}
+use Rattle.reader.specs.Numbering.{note, or-0}
+use Rattle.reader.specs.Reading.{State}
+use Rattle.reader.proofs.Steps.{next-token, fails-token, fails-end, fails-bad}
+use Rattle.reader.proofs.Reader.action.Needs as need
+
+pub returns-in-Name : need.returns-in-Name
+returns-in-Name c =
+    record {
+      onto = search needs;
+      reads = λ x ts t st.
+          let n = next-token (c .args .self .now) (name (c .in-Name .name .now)) (c .in-Found .start) (c .in-Found .on) (ap (λ y. found (sym-of y) (c .in-Found .start) (c .in-Found .on)) (sym (c .in-Name .is)) ∙ c .in-Found .ensures tt .value) x ts t st in
+          let k : c .lookup-found .result ≡ number (x .action-names) (c .in-Name .name .now) = c .lookup-found .ensures .kept (x .action-names) (subst (λ b. WordList 64 b (x .action-names)) (sym (st .actions)) (x .known-actions)) in
+          let p : c .in-Name .place ≡ c .in-Found .start = subst (λ y. Placed y (c .in-Found .start)) (c .in-Name .is) (c .in-Found .ensures tt .onward .3) in
+          let s = c .number .ensures .notes x (n .0) t (n .2) in
+          (c .in-Name .name .now, c .in-Found .start, n .0, n .1, subst (λ o. State x (c .number .last .self) (n .0) (note o (c .in-Found .start) t)) k (subst (λ q. State x (c .number .last .self) (n .0) (note (c .lookup-found .result) q t)) p s), c .number .ensures .value ∙ ap or-0 k);
+    }
+
+pub returns-in-Variable : need.returns-in-Variable
+returns-in-Variable c = record { onto = search needs; reads = fails-token an-action (c .args .self .now) (variable (c .in-Variable .-v)) (c .in-Found .start) (c .in-Found .on) (ap (λ y. found (sym-of y) (c .in-Found .start) (c .in-Found .on)) (sym (c .in-Variable .is)) ∙ c .in-Found .ensures tt .value) (λ k ps. refl) }
+
+pub returns-in-Sign : need.returns-in-Sign
+returns-in-Sign c = record { onto = search needs; reads = fails-token an-action (c .args .self .now) (sign (c .in-Sign .-sign)) (c .in-Found .start) (c .in-Found .on) (ap (λ y. found (sym-of y) (c .in-Found .start) (c .in-Found .on)) (sym (c .in-Sign .is)) ∙ c .in-Found .ensures tt .value) (λ k ps. refl) }
+
+pub returns-in-End : need.returns-in-End
+returns-in-End c = record { onto = search needs; reads = fails-end an-action (c .args .self .now) (c .in-End .place) (λ k ps. refl) (c .in-End .ensures tt .value) (c .in-End .ensures tt .onward .1 (c .pre .within)) }
+
+pub returns-in-Bad : need.returns-in-Bad
+returns-in-Bad c = record { onto = search needs; reads = fails-bad (an-action ∷ []) (c .args .self .now) (c .in-Bad .place) (c .in-Bad .ensures tt .value) }
