@@ -1,0 +1,3 @@
+pub mod Extends
+pub mod Back
+pub mod Forests
