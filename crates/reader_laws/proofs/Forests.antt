@@ -55,28 +55,35 @@ module _ (ns : List Node) (lo mid hi : ℕ) (P Q : ℕ → Type 0) (f : Forest n
       low : (n c : ℕ) → lo ≤ n → n < hi → Names c (getD ns n nd.False) → (n < mid) ⊎ (mid ≤ n) → (lo ≤ c) × (c < n)
       low n c a b h (inl x) = f .lower n c a x h
       low n c a b h (inr x) = let r = g .lower n c x b h in let o = f .order in (omega (arith, r .0), r .1)
+
       one : (n m c : ℕ) → lo ≤ n → n < hi → lo ≤ m → m < hi → Names c (getD ns n nd.False) → Names c (getD ns m nd.False) → (n < mid) ⊎ (mid ≤ n) → (m < mid) ⊎ (mid ≤ m) → n ≡ m
       one n m c a b d e h i (inl x) (inl y) = f .once n m c a x d y h i
       one n m c a b d e h i (inl x) (inr y) = absurd (omega (arith, f .lower n c a x h .1, g .lower m c y e i .0))
       one n m c a b d e h i (inr x) (inl y) = absurd (omega (arith, g .lower n c x b h .0, f .lower m c d y i .1))
       one n m c a b d e h i (inr x) (inr y) = g .once n m c x b y e h i
+
       off : (n : ℕ) → lo ≤ n → n < hi → (n < mid) ⊎ (mid ≤ n) → Apart (getD ns n nd.False)
       off n a b (inl x) = f .apart n a x
       off n a b (inr x) = g .apart n x b
+
       root : (c : ℕ) → P c ⊎ Q c → (lo ≤ c) × (c < hi)
       root c (inl p) = let r = f .roots c p in let q = g .order in (r .0, omega (arith, r .1))
       root c (inr p) = let r = g .roots c p in let o = f .order in (omega (arith, r .0), r .1)
+
       none : (c n : ℕ) → P c ⊎ Q c → lo ≤ n → n < hi → Names c (getD ns n nd.False) → (n < mid) ⊎ (mid ≤ n) → ⊥
       none c n (inl p) a b h (inl x) = f .free c n p a x h
       none c n (inl p) a b h (inr x) = omega (arith, f .roots c p .1, g .lower n c x b h .0)
       none c n (inr p) a b h (inl x) = omega (arith, g .roots c p .0, f .lower n c a x h .1)
       none c n (inr p) a b h (inr x) = g .free c n p x b h
+
       left : (c : ℕ) → P c ⊎ ((n : ℕ) × (lo ≤ n) × (n < mid) × Names c (getD ns n nd.False)) → (P c ⊎ Q c) ⊎ ((n : ℕ) × (lo ≤ n) × (n < hi) × Names c (getD ns n nd.False))
       left c (inl p) = inl (inl p)
       left c (inr r) = let q = g .order in inr (r .0, r .1, omega (arith, r .2), r .3)
+
       right : (c : ℕ) → Q c ⊎ ((n : ℕ) × (mid ≤ n) × (n < hi) × Names c (getD ns n nd.False)) → (P c ⊎ Q c) ⊎ ((n : ℕ) × (lo ≤ n) × (n < hi) × Names c (getD ns n nd.False))
       right c (inl p) = inl (inr p)
       right c (inr r) = let o = f .order in inr (r .0, omega (arith, r .1), r .2, r .3)
+
       some : (c : ℕ) → lo ≤ c → c < hi → (c < mid) ⊎ (mid ≤ c) → (P c ⊎ Q c) ⊎ ((n : ℕ) × (lo ≤ n) × (n < hi) × Names c (getD ns n nd.False))
       some c a b (inl x) = left c (f .named c a x)
       some c a b (inr x) = right c (g .named c x b)
@@ -102,17 +109,21 @@ module _ (ns : List Node) (lo hi : ℕ) (P : ℕ → Type 0) (f : Forest ns lo h
       low : (n c : ℕ) → lo ≤ n → n < hi + 1 → Names c (getD ns n nd.False) → (n < hi) ⊎ (hi ≤ n) → (lo ≤ c) × (c < n)
       low n c a b h (inl y) = f .lower n c a y h
       low n c a b h (inr y) = let r = f .roots c (at-top n c y b h) in (r .0, omega (arith, r .1))
+
       one : (n m c : ℕ) → lo ≤ n → n < hi + 1 → lo ≤ m → m < hi + 1 → Names c (getD ns n nd.False) → Names c (getD ns m nd.False) → (n < hi) ⊎ (hi ≤ n) → (m < hi) ⊎ (hi ≤ m) → n ≡ m
       one n m c a b d e h i (inl y) (inl z) = f .once n m c a y d z h i
       one n m c a b d e h i (inl y) (inr z) = absurd (f .free c n (at-top m c z e i) a y h)
       one n m c a b d e h i (inr y) (inl z) = absurd (f .free c m (at-top n c y b h) d z i)
       one n m c a b d e h i (inr y) (inr z) = omega arith
+
       far : (n : ℕ) → lo ≤ n → n < hi + 1 → (n < hi) ⊎ (hi ≤ n) → Apart (getD ns n nd.False)
       far n a b (inl y) = f .apart n a y
       far n a b (inr y) = let e : n ≡ hi = omega arith in subst Apart (sym (ap (λ i. getD ns i nd.False) e ∙ is)) off
+
       none : (c n : ℕ) → c ≡ hi → lo ≤ n → n < hi + 1 → Names c (getD ns n nd.False) → (n < hi) ⊎ (hi ≤ n) → ⊥
       none c n p a b h (inl y) = omega (arith, f .lower n c a y h .1)
       none c n p a b h (inr y) = omega (arith, f .roots c (at-top n c y b h) .1)
+
       some : (c : ℕ) → lo ≤ c → c < hi + 1 → (c < hi) ⊎ (hi ≤ c) → (c ≡ hi) ⊎ ((n : ℕ) × (lo ≤ n) × (n < hi + 1) × Names c (getD ns n nd.False))
       some c a b (inl y) = old (f .named c a y)
         where
