@@ -1,0 +1,5 @@
+pub mod Extends
+pub mod Back
+pub mod Forests
+pub mod Fits
+pub mod Hold
