@@ -18,8 +18,8 @@ pub trait Kind {
 
     law beyond: { (k : Self) (s : Self·Set) (p : ℕ) → places ≤ p → means k s p ≡ false };
 
-    // Generic code can hold 64 sets, a row of them, in an array of its own.
-    law roomy: { 64 * size (lone (Self·Set·row .mir)) < 2 ^ 63 };
+    // Generic code can hold 256 sets in an array of its own: a row of them, or one for each transition.
+    law roomy: { 256 * size (lone (Self·Set·row .mir)) < 2 ^ 63 };
 
     // How many places the kind has, for code that has to refuse what does not fit.
     fn places_count(&self) -> usize

@@ -1,0 +1,1 @@
+// What a check gathers into sets once, before it walks through the formula.
