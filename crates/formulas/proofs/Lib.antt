@@ -1,2 +1,5 @@
 pub mod Trees
 pub mod Scope
+pub mod Naming
+pub mod Climbing
+pub mod Judging

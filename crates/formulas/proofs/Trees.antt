@@ -48,7 +48,7 @@ module _ (es : List Expr) (lower : (n c : ℕ) → Part-of c (getD es n ex.False
       expression-same (expression-to es n) (expression-at es) (getD es n ex.False)
       (λ c h. expr-deep n (suc c) c (lower n c h) (omega arith))
 
-under-cases : {ns : List Node} {n m : ℕ} → Under ns n m → (n ≡ m) ⊎ ((p : ℕ) × Under ns n p × Names m (getD ns p nd.False))
+pub under-cases : {ns : List Node} {n m : ℕ} → Under ns n m → (n ≡ m) ⊎ ((p : ℕ) × Under ns n p × Names m (getD ns p nd.False))
 under-cases itself = inl refl
 under-cases (further {p = p} u h) = inr (p, u, h)
 

@@ -36,3 +36,5 @@ pub enum Node {
     Least(u8, usize),
     Greatest(u8, usize),
 }
+
+pub mod judge;
