@@ -19,7 +19,7 @@ pub enum Rule {
 }
 
 // The products that are not in the set.
-fn without<K: Kind>(kind: &mut K, all: K::Set, set: K::Set) -> K::Set
+pub fn without<K: Kind>(kind: &mut K, all: K::Set, set: K::Set) -> K::Set
     ensures value { λ r. ⌜ ((p : ℕ) → means (now (kind .exit)) r p ≡ ruled Rule.Rest (means (now (kind .entry)) all p) (means (now (kind .entry)) set p) true) ⌝ }
     ensures kept { λ _. ⌜ ((s : K·Set) (p : ℕ) → means (now (kind .exit)) s p ≡ means (now (kind .entry)) s p) ⌝ }
 {
@@ -66,6 +66,19 @@ pub fn taken<K: Kind>(cells: &[K::Set], start: usize, states: usize, filler: K::
         row[s] = cells[start + s];
     }
     row
+}
+
+// The row of the products that are not in a row.
+pub fn complement<K: Kind>(kind: &mut K, all: K::Set, row: &[K::Set]) -> [K::Set; 64]
+    requires fits { ⌜ length (now row) ≤ 64 ⌝ }
+    ensures value { λ r. ⌜ ((s : ℕ) (x : K·Set) (p : ℕ) → s < length (now (row .entry)) → means (now (kind .entry)) (getD r s x) p ≡ ruled Rule.Rest (means (now (kind .entry)) all p) (means (now (kind .entry)) (getD (now (row .entry)) s x) p) true) ⌝ }
+    ensures kept { λ _. ⌜ ((s : K·Set) (p : ℕ) → means (now (kind .exit)) s p ≡ means (now (kind .entry)) s p) ⌝ }
+{
+    let mut rest = [all; 64];
+    for s in 0..row.len() {
+        rest[s] = without(kind, all, row[s]);
+    }
+    rest
 }
 
 // Whether the rows from two places on mean the same.
