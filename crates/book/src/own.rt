@@ -100,6 +100,13 @@ fn list_all(
 }
 
 impl ClosedBook {
+    // How many states the book has.
+    pub fn states(&self) -> usize
+        ensures { λ r. ⌜ r ≡ closed-contents (now (self .entry)) .states ⌝ }
+    {
+        self.states
+    }
+
     // The configurations of the products, by their numbers.
     pub fn products(&self) -> &[u16]
         ensures { λ r. ⌜ now r ≡ closed-contents (now (self .entry)) .products ⌝ }

@@ -6,22 +6,20 @@ ghost use prog.Memory.{size};
 ghost use denote.Memory.{lone};
 ghost use lib.Dec.{eqb, ltb};
 
-// A kind of product set (the makers say kind too) makes sets of places, a place being a product number below the
-// kind's fixed count of places. The kind is a value of its own, and what a set means is relative to it, so that a kind
-// may keep a store. None of the functions refuses, and a set keeps its meaning while others are made.
+// A kind makes sets of places, a place being a product number below the kind's fixed count of places.
+// The kind is a value of its own, and what a set means is relative to it, so that a kind may keep a store.
+// None of the functions refuses, and a set keeps its meaning while others are made.
 pub trait Kind {
     type Set: Copy;
 
     ghost places: { ℕ };
 
-    // Which places are in a set.
     ghost means: { Self → Self·Set → ℕ → Bool };
 
-    // No place from the count on is in a set.
     law beyond: { (k : Self) (s : Self·Set) (p : ℕ) → places ≤ p → means k s p ≡ false };
 
-    // Generic code can hold 64 sets, a row of them, in an array of its own.
-    law roomy: { 64 * size (lone (Self·Set·row .mir)) < 2 ^ 63 };
+    // Generic code can hold 256 sets in an array of its own: a row of them, or one for each transition.
+    law roomy: { 256 * size (lone (Self·Set·row .mir)) < 2 ^ 63 };
 
     // How many places the kind has, for code that has to refuse what does not fit.
     fn places_count(&self) -> usize

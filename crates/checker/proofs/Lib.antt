@@ -1,0 +1,5 @@
+pub mod Places
+pub mod Collecting
+pub mod Leading
+pub mod Stages
+pub mod Rounding
