@@ -320,8 +320,8 @@ impl<'t, 'a, 'f, 'e, 'n> Reader<'t, 'a, 'f, 'e, 'n> {
                         }
                         Sign::Mu => {
                             let v = self.fixpoint_head()?;
-                            let part = self.formula()?;
-                            Ok(self.enter_node(Node::Least(v, part)))
+                            let body = self.formula()?;
+                            Ok(self.enter_node(Node::Least(v, body)))
                         }
                         Sign::Nu => {
                             let v = self.fixpoint_head()?;

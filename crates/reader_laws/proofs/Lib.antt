@@ -3,3 +3,5 @@ pub mod Back
 pub mod Forests
 pub mod Fits
 pub mod Hold
+pub mod Same
+pub mod One

@@ -90,3 +90,7 @@ pub record Structured (es : List Expr) (ns : List Node) : Type 0 where
 -- Whatever text is accepted, its tables stand for its formula and keep their form.
 abbrev pub Tables-hold : Type 0
 Tables-hold = (text actions features : List ℕ) (es : List Expr) (ns : List Node) (v : ℕ) (fs : List Expr) (ms : List Node) → Reading text actions features es ns 0 v fs ms → Stands text actions features fs ms v × Structured fs (take v ms)
+
+-- A text, two word lists and two tables have one answer, with one outcome of the tables.
+abbrev pub One-answer : Type 0
+One-answer = (text actions features : List ℕ) (es : List Expr) (ns : List Node) (k l v w : ℕ) (fs gs : List Expr) (ms hs : List Node) → Reading text actions features es ns k v fs ms → Reading text actions features es ns l w gs hs → (k ≡ l) × (v ≡ w) × (fs ≡ gs) × (ms ≡ hs)

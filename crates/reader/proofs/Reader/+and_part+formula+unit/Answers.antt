@@ -24,7 +24,7 @@ and-part-loop-on-holds t c =
 pub and-part-loop-on-again : need.and-part-loop-on-again
 and-part-loop-on-again t c =
     let s = c .in-Some .ensures tt in
-    (search needs, and-more formula (c .unit .last .self) (c .in-Continue-left .left) (c .loop-on .self) (c .loop-on .left) (s .0) (c .in-Some .on) (s .1) (c .loop-on .inv .1) (c .unit-in-Some .last .self) (c .enter-node-left .last .self) (c .in-Continue-right .right) (c .enter-node-left .result) (c .in-Continue-right .ensures tt .reads) (c .enter-node-left .ensures .enters))
+    (search needs, and-more formula (c .unit .last .self) (c .in-Continue-left .left) (c .loop-on .self) (c .loop-on .left) (s .0) (c .in-Some .on) (s .1) (c .loop-on .inv .1) _ (c .enter-node-left .last .self) (c .in-Continue-right .right) (c .enter-node-left .result) (c .in-Continue-right .ensures tt .reads) (c .enter-node-left .ensures .enters))
 
 pub and-part-returns : need.and-part-returns
 and-part-returns t c =
@@ -47,7 +47,7 @@ formula-loop-on-holds t c =
 pub formula-loop-on-again : need.formula-loop-on-again
 formula-loop-on-again t c =
     let s = c .in-Some .ensures tt in
-    (search needs, or-more formula (c .and-part .last .self) (c .in-Continue-left .left) (c .loop-on .self) (c .loop-on .left) (s .0) (c .in-Some .on) (s .1) (c .loop-on .inv .1) (c .and-part-in-Some .last .self) (c .enter-node-left .last .self) (c .in-Continue-right .right) (c .enter-node-left .result) (c .in-Continue-right .ensures tt .reads) (c .enter-node-left .ensures .enters))
+    (search needs, or-more formula (c .and-part .last .self) (c .in-Continue-left .left) (c .loop-on .self) (c .loop-on .left) (s .0) (c .in-Some .on) (s .1) (c .loop-on .inv .1) _ (c .enter-node-left .last .self) (c .in-Continue-right .right) (c .enter-node-left .result) (c .in-Continue-right .ensures tt .reads) (c .enter-node-left .ensures .enters))
 
 pub formula-returns : need.formula-returns
 formula-returns t c =
@@ -130,33 +130,33 @@ unit-returns-in-Break-part-3 t c =
     let p = err-from-errBy (c .from-residual-in-Break-part-3 .result) (c .from-residual-in-Break-part-3 .ensures .1) in
     record { onto = search needs; reads = rw (p .1, p .2) (fails-then (unit formula ∷ []) (unit formula ∷ make-modal box ∷ []) (c .args .self .now) (c .modality-in-LeftBracket .last .self) _ (goes-then (unit formula ∷ []) (an-action ∷ expect bar ∷ whole expression (expect bracket ∷ unit formula ∷ make-modal box ∷ [])) (unit formula ∷ make-modal box ∷ []) (c .args .self .now) (moved (c .args .self .now) (c .in-Found .on)) (c .modality-in-LeftBracket .last .self) (goes-token (unit formula) (an-action ∷ expect bar ∷ whole expression (expect bracket ∷ unit formula ∷ make-modal box ∷ [])) [] (c .args .self .now) (sign LeftBracket) (c .in-Found .start) (c .in-Found .on) (ap (λ y. found (sign y) (c .in-Found .start) (c .in-Found .on)) (sym (c .in-LeftBracket .is)) ∙ ap (λ y. found (sym-of y) (c .in-Found .start) (c .in-Found .on)) (sym (c .in-Sign .is)) ∙ c .in-Found .ensures tt .value) (λ k ps. refl)) (goes-more (an-action ∷ expect bar ∷ whole expression (expect bracket ∷ [])) [] (unit formula ∷ make-modal box ∷ []) (moved (c .args .self .now) (c .in-Found .on)) (c .modality-in-LeftBracket .last .self) (goes-modal box (moved (c .args .self .now) (c .in-Found .on)) (c .modality-in-LeftBracket .last .self) (c .in-Continue-action-2 .action) (c .in-Continue-action-2 .expr) (c .in-Continue-action-2 .ensures tt .reads box refl)))) (fails-first (unit formula ∷ []) (make-modal box ∷ []) (c .modality-in-LeftBracket .last .self) _ (c .in-Break-part-3 .ensures tt .reads))) }
 
-pub unit-returns-in-Continue-part-4 : need.unit-returns-in-Continue-part-4
-unit-returns-in-Continue-part-4 t c =
-    record { onto = search needs; reads = did-fixpoint least (c .args .self .now) (c .in-Found .start) (c .in-Found .on) (c .fixpoint-head .last .self) (c .formula-in-Mu .last .self) (c .enter-node-in-Mu .last .self) (c .in-Continue-v .v) (c .in-Continue-part-4 .part) (c .enter-node-in-Mu .result) (ap (λ y. found (sign y) (c .in-Found .start) (c .in-Found .on)) (sym (c .in-Mu .is)) ∙ ap (λ y. found (sym-of y) (c .in-Found .start) (c .in-Found .on)) (sym (c .in-Sign .is)) ∙ c .in-Found .ensures tt .value) (c .in-Continue-v .ensures tt .reads) (c .in-Continue-part-4 .ensures tt .reads) (c .enter-node-in-Mu .ensures .enters) }
+pub unit-returns-in-Continue-body : need.unit-returns-in-Continue-body
+unit-returns-in-Continue-body t c =
+    record { onto = search needs; reads = did-fixpoint least (c .args .self .now) (c .in-Found .start) (c .in-Found .on) (c .fixpoint-head .last .self) _ (c .enter-node-in-Mu .last .self) (c .in-Continue-v .v) (c .in-Continue-body .body) (c .enter-node-in-Mu .result) (ap (λ y. found (sign y) (c .in-Found .start) (c .in-Found .on)) (sym (c .in-Mu .is)) ∙ ap (λ y. found (sym-of y) (c .in-Found .start) (c .in-Found .on)) (sym (c .in-Sign .is)) ∙ c .in-Found .ensures tt .value) (c .in-Continue-v .ensures tt .reads) (c .in-Continue-body .ensures tt .reads) (c .enter-node-in-Mu .ensures .enters) }
 
 pub unit-returns-in-Break-v : need.unit-returns-in-Break-v
 unit-returns-in-Break-v t c =
     let p = err-from-errBy (c .from-residual-in-Break-v .result) (c .from-residual-in-Break-v .ensures .1) in
     record { onto = search needs; reads = rw (p .1, p .2) (fails-then (unit formula ∷ []) (a-variable ∷ expect dot ∷ whole formula (make-fixpoint least ∷ [])) (c .args .self .now) (moved (c .args .self .now) (c .in-Found .on)) _ (goes-token (unit formula) (a-variable ∷ expect dot ∷ whole formula (make-fixpoint least ∷ [])) [] (c .args .self .now) (sign Mu) (c .in-Found .start) (c .in-Found .on) (ap (λ y. found (sign y) (c .in-Found .start) (c .in-Found .on)) (sym (c .in-Mu .is)) ∙ ap (λ y. found (sym-of y) (c .in-Found .start) (c .in-Found .on)) (sym (c .in-Sign .is)) ∙ c .in-Found .ensures tt .value) (λ k ps. refl)) (fails-first (a-variable ∷ expect dot ∷ []) (whole formula (make-fixpoint least ∷ [])) (moved (c .args .self .now) (c .in-Found .on)) _ (c .in-Break-v .ensures tt .reads))) }
 
-pub unit-returns-in-Break-part-4 : need.unit-returns-in-Break-part-4
-unit-returns-in-Break-part-4 t c =
-    let p = err-from-errBy (c .from-residual-in-Break-part-4 .result) (c .from-residual-in-Break-part-4 .ensures .1) in
-    record { onto = search needs; reads = rw (p .1, p .2) (fails-then (unit formula ∷ []) (whole formula (make-fixpoint least ∷ [])) (c .args .self .now) (c .fixpoint-head .last .self) _ (goes-then (unit formula ∷ []) (a-variable ∷ expect dot ∷ whole formula (make-fixpoint least ∷ [])) (whole formula (make-fixpoint least ∷ [])) (c .args .self .now) (moved (c .args .self .now) (c .in-Found .on)) (c .fixpoint-head .last .self) (goes-token (unit formula) (a-variable ∷ expect dot ∷ whole formula (make-fixpoint least ∷ [])) [] (c .args .self .now) (sign Mu) (c .in-Found .start) (c .in-Found .on) (ap (λ y. found (sign y) (c .in-Found .start) (c .in-Found .on)) (sym (c .in-Mu .is)) ∙ ap (λ y. found (sym-of y) (c .in-Found .start) (c .in-Found .on)) (sym (c .in-Sign .is)) ∙ c .in-Found .ensures tt .value) (λ k ps. refl)) (goes-more (a-variable ∷ expect dot ∷ []) [] (whole formula (make-fixpoint least ∷ [])) (moved (c .args .self .now) (c .in-Found .on)) (c .fixpoint-head .last .self) (goes-head (moved (c .args .self .now) (c .in-Found .on)) (c .fixpoint-head .last .self) (c .in-Continue-v .v) (c .in-Continue-v .ensures tt .reads)))) (fails-first (whole formula []) (make-fixpoint least ∷ []) (c .fixpoint-head .last .self) _ (c .in-Break-part-4 .ensures tt .reads))) }
+pub unit-returns-in-Break-body : need.unit-returns-in-Break-body
+unit-returns-in-Break-body t c =
+    let p = err-from-errBy (c .from-residual-in-Break-body .result) (c .from-residual-in-Break-body .ensures .1) in
+    record { onto = search needs; reads = rw (p .1, p .2) (fails-then (unit formula ∷ []) (whole formula (make-fixpoint least ∷ [])) (c .args .self .now) (c .fixpoint-head .last .self) _ (goes-then (unit formula ∷ []) (a-variable ∷ expect dot ∷ whole formula (make-fixpoint least ∷ [])) (whole formula (make-fixpoint least ∷ [])) (c .args .self .now) (moved (c .args .self .now) (c .in-Found .on)) (c .fixpoint-head .last .self) (goes-token (unit formula) (a-variable ∷ expect dot ∷ whole formula (make-fixpoint least ∷ [])) [] (c .args .self .now) (sign Mu) (c .in-Found .start) (c .in-Found .on) (ap (λ y. found (sign y) (c .in-Found .start) (c .in-Found .on)) (sym (c .in-Mu .is)) ∙ ap (λ y. found (sym-of y) (c .in-Found .start) (c .in-Found .on)) (sym (c .in-Sign .is)) ∙ c .in-Found .ensures tt .value) (λ k ps. refl)) (goes-more (a-variable ∷ expect dot ∷ []) [] (whole formula (make-fixpoint least ∷ [])) (moved (c .args .self .now) (c .in-Found .on)) (c .fixpoint-head .last .self) (goes-head (moved (c .args .self .now) (c .in-Found .on)) (c .fixpoint-head .last .self) (c .in-Continue-v .v) (c .in-Continue-v .ensures tt .reads)))) (fails-first (whole formula []) (make-fixpoint least ∷ []) (c .fixpoint-head .last .self) _ (c .in-Break-body .ensures tt .reads))) }
 
-pub unit-returns-in-Continue-part-5 : need.unit-returns-in-Continue-part-5
-unit-returns-in-Continue-part-5 t c =
-    record { onto = search needs; reads = did-fixpoint greatest (c .args .self .now) (c .in-Found .start) (c .in-Found .on) (c .fixpoint-head-in-Nu .last .self) (c .formula-in-Nu .last .self) (c .enter-node-in-Nu .last .self) (c .in-Continue-v-2 .v) (c .in-Continue-part-5 .part) (c .enter-node-in-Nu .result) (ap (λ y. found (sign y) (c .in-Found .start) (c .in-Found .on)) (sym (c .in-Nu .is)) ∙ ap (λ y. found (sym-of y) (c .in-Found .start) (c .in-Found .on)) (sym (c .in-Sign .is)) ∙ c .in-Found .ensures tt .value) (c .in-Continue-v-2 .ensures tt .reads) (c .in-Continue-part-5 .ensures tt .reads) (c .enter-node-in-Nu .ensures .enters) }
+pub unit-returns-in-Continue-part-4 : need.unit-returns-in-Continue-part-4
+unit-returns-in-Continue-part-4 t c =
+    record { onto = search needs; reads = did-fixpoint greatest (c .args .self .now) (c .in-Found .start) (c .in-Found .on) (c .fixpoint-head-in-Nu .last .self) _ (c .enter-node-in-Nu .last .self) (c .in-Continue-v-2 .v) (c .in-Continue-part-4 .part) (c .enter-node-in-Nu .result) (ap (λ y. found (sign y) (c .in-Found .start) (c .in-Found .on)) (sym (c .in-Nu .is)) ∙ ap (λ y. found (sym-of y) (c .in-Found .start) (c .in-Found .on)) (sym (c .in-Sign .is)) ∙ c .in-Found .ensures tt .value) (c .in-Continue-v-2 .ensures tt .reads) (c .in-Continue-part-4 .ensures tt .reads) (c .enter-node-in-Nu .ensures .enters) }
 
 pub unit-returns-in-Break-v-2 : need.unit-returns-in-Break-v-2
 unit-returns-in-Break-v-2 t c =
     let p = err-from-errBy (c .from-residual-in-Break-v-2 .result) (c .from-residual-in-Break-v-2 .ensures .1) in
     record { onto = search needs; reads = rw (p .1, p .2) (fails-then (unit formula ∷ []) (a-variable ∷ expect dot ∷ whole formula (make-fixpoint greatest ∷ [])) (c .args .self .now) (moved (c .args .self .now) (c .in-Found .on)) _ (goes-token (unit formula) (a-variable ∷ expect dot ∷ whole formula (make-fixpoint greatest ∷ [])) [] (c .args .self .now) (sign Nu) (c .in-Found .start) (c .in-Found .on) (ap (λ y. found (sign y) (c .in-Found .start) (c .in-Found .on)) (sym (c .in-Nu .is)) ∙ ap (λ y. found (sym-of y) (c .in-Found .start) (c .in-Found .on)) (sym (c .in-Sign .is)) ∙ c .in-Found .ensures tt .value) (λ k ps. refl)) (fails-first (a-variable ∷ expect dot ∷ []) (whole formula (make-fixpoint greatest ∷ [])) (moved (c .args .self .now) (c .in-Found .on)) _ (c .in-Break-v-2 .ensures tt .reads))) }
 
-pub unit-returns-in-Break-part-5 : need.unit-returns-in-Break-part-5
-unit-returns-in-Break-part-5 t c =
-    let p = err-from-errBy (c .from-residual-in-Break-part-5 .result) (c .from-residual-in-Break-part-5 .ensures .1) in
-    record { onto = search needs; reads = rw (p .1, p .2) (fails-then (unit formula ∷ []) (whole formula (make-fixpoint greatest ∷ [])) (c .args .self .now) (c .fixpoint-head-in-Nu .last .self) _ (goes-then (unit formula ∷ []) (a-variable ∷ expect dot ∷ whole formula (make-fixpoint greatest ∷ [])) (whole formula (make-fixpoint greatest ∷ [])) (c .args .self .now) (moved (c .args .self .now) (c .in-Found .on)) (c .fixpoint-head-in-Nu .last .self) (goes-token (unit formula) (a-variable ∷ expect dot ∷ whole formula (make-fixpoint greatest ∷ [])) [] (c .args .self .now) (sign Nu) (c .in-Found .start) (c .in-Found .on) (ap (λ y. found (sign y) (c .in-Found .start) (c .in-Found .on)) (sym (c .in-Nu .is)) ∙ ap (λ y. found (sym-of y) (c .in-Found .start) (c .in-Found .on)) (sym (c .in-Sign .is)) ∙ c .in-Found .ensures tt .value) (λ k ps. refl)) (goes-more (a-variable ∷ expect dot ∷ []) [] (whole formula (make-fixpoint greatest ∷ [])) (moved (c .args .self .now) (c .in-Found .on)) (c .fixpoint-head-in-Nu .last .self) (goes-head (moved (c .args .self .now) (c .in-Found .on)) (c .fixpoint-head-in-Nu .last .self) (c .in-Continue-v-2 .v) (c .in-Continue-v-2 .ensures tt .reads)))) (fails-first (whole formula []) (make-fixpoint greatest ∷ []) (c .fixpoint-head-in-Nu .last .self) _ (c .in-Break-part-5 .ensures tt .reads))) }
+pub unit-returns-in-Break-part-4 : need.unit-returns-in-Break-part-4
+unit-returns-in-Break-part-4 t c =
+    let p = err-from-errBy (c .from-residual-in-Break-part-4 .result) (c .from-residual-in-Break-part-4 .ensures .1) in
+    record { onto = search needs; reads = rw (p .1, p .2) (fails-then (unit formula ∷ []) (whole formula (make-fixpoint greatest ∷ [])) (c .args .self .now) (c .fixpoint-head-in-Nu .last .self) _ (goes-then (unit formula ∷ []) (a-variable ∷ expect dot ∷ whole formula (make-fixpoint greatest ∷ [])) (whole formula (make-fixpoint greatest ∷ [])) (c .args .self .now) (moved (c .args .self .now) (c .in-Found .on)) (c .fixpoint-head-in-Nu .last .self) (goes-token (unit formula) (a-variable ∷ expect dot ∷ whole formula (make-fixpoint greatest ∷ [])) [] (c .args .self .now) (sign Nu) (c .in-Found .start) (c .in-Found .on) (ap (λ y. found (sign y) (c .in-Found .start) (c .in-Found .on)) (sym (c .in-Nu .is)) ∙ ap (λ y. found (sym-of y) (c .in-Found .start) (c .in-Found .on)) (sym (c .in-Sign .is)) ∙ c .in-Found .ensures tt .value) (λ k ps. refl)) (goes-more (a-variable ∷ expect dot ∷ []) [] (whole formula (make-fixpoint greatest ∷ [])) (moved (c .args .self .now) (c .in-Found .on)) (c .fixpoint-head-in-Nu .last .self) (goes-head (moved (c .args .self .now) (c .in-Found .on)) (c .fixpoint-head-in-Nu .last .self) (c .in-Continue-v-2 .v) (c .in-Continue-v-2 .ensures tt .reads)))) (fails-first (whole formula []) (make-fixpoint greatest ∷ []) (c .fixpoint-head-in-Nu .last .self) _ (c .in-Break-part-4 .ensures tt .reads))) }
 
 pub unit-returns-in-rest : need.unit-returns-in-rest
 unit-returns-in-rest t c =

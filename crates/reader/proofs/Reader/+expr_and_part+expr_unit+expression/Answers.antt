@@ -24,7 +24,7 @@ expr-and-part-loop-on-holds t c =
 pub expr-and-part-loop-on-again : need.expr-and-part-loop-on-again
 expr-and-part-loop-on-again t c =
     let s = c .in-Some .ensures tt in
-    (search needs, and-more expression (c .expr-unit .last .self) (c .in-Continue-left .left) (c .loop-on .self) (c .loop-on .left) (s .0) (c .in-Some .on) (s .1) (c .loop-on .inv .1) (c .expr-unit-in-Some .last .self) (c .enter-expr-left .last .self) (c .in-Continue-right .right) (c .enter-expr-left .result) (c .in-Continue-right .ensures tt .reads) (c .enter-expr-left .ensures .enters))
+    (search needs, and-more expression (c .expr-unit .last .self) (c .in-Continue-left .left) (c .loop-on .self) (c .loop-on .left) (s .0) (c .in-Some .on) (s .1) (c .loop-on .inv .1) _ (c .enter-expr-left .last .self) (c .in-Continue-right .right) (c .enter-expr-left .result) (c .in-Continue-right .ensures tt .reads) (c .enter-expr-left .ensures .enters))
 
 pub expr-and-part-returns : need.expr-and-part-returns
 expr-and-part-returns t c =
@@ -47,7 +47,7 @@ expression-loop-on-holds t c =
 pub expression-loop-on-again : need.expression-loop-on-again
 expression-loop-on-again t c =
     let s = c .in-Some .ensures tt in
-    (search needs, or-more expression (c .expr-and-part .last .self) (c .in-Continue-left .left) (c .loop-on .self) (c .loop-on .left) (s .0) (c .in-Some .on) (s .1) (c .loop-on .inv .1) (c .expr-and-part-in-Some .last .self) (c .enter-expr-left .last .self) (c .in-Continue-right .right) (c .enter-expr-left .result) (c .in-Continue-right .ensures tt .reads) (c .enter-expr-left .ensures .enters))
+    (search needs, or-more expression (c .expr-and-part .last .self) (c .in-Continue-left .left) (c .loop-on .self) (c .loop-on .left) (s .0) (c .in-Some .on) (s .1) (c .loop-on .inv .1) _ (c .enter-expr-left .last .self) (c .in-Continue-right .right) (c .enter-expr-left .result) (c .in-Continue-right .ensures tt .reads) (c .enter-expr-left .ensures .enters))
 
 pub expression-returns : need.expression-returns
 expression-returns t c =
