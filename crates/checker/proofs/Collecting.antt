@@ -5,7 +5,7 @@ use mathlib.Core.Logic.{_↔_, inl, inr}
 use mathlib.Core.List.{List, [], _∷_}
 use Prim.Native.Nat.{ℕ, zero, suc, _+_, _<_, _≤_}
 use native.Mathlib.Omega.{arith}
-use lib.Dec.{T, eqb, ltb, eqb→eq}
+use lib.Dec.{T, eqb, ltb, eqb→eq, ltb→lt}
 use lib.ListN.{length, getD, set, replicate}
 use Rattle.std.proofs.shelf.Tests.{cases-eq, lt-ltb}
 use Rattle.std.proofs.shelf.Lists.{getD-set-same, getD-set-other, length-set}
@@ -178,3 +178,10 @@ from-true {b} = go b
     go : (b : Bool) → T b → b ≡ true
     go true t = refl
     go false t = absurd t
+
+-- The first places, if there are so many.
+pub first-places : (f : ℕ → Bool) (n places : ℕ) → n ≤ places → ((p : ℕ) → f p ≡ (ltb p n && ltb p places)) → (p : ℕ) → T (f p) ↔ (p < n)
+first-places f n places fits e p = (
+  λ t. ltb→lt p n (and-split (ltb p n) (ltb p places) (subst T (e p) t) .0),
+  λ p<. subst T (sym (e p)) (and-both (ltb p n) (ltb p places) (is-true (lt-ltb p n p<)) (is-true (lt-ltb p places (omega arith)))),
+)

@@ -8,6 +8,7 @@ use native.Mathlib.Omega.{arith}
 use lib.Dec.{T}
 use lib.ListN.{length, getD}
 use Rattle.std.proofs.shelf.Tests.{cases-eq, cases-order}
+use Rattle.std.proofs.shelf.Lists.{getD-past}
 use Rattle.families.specs.Families.{Family, count, config}
 use Rattle.families.proofs.Tests.{and-split, and-both, or-split, or-left, or-right, not-iff}
 use Rattle.formulas.specs.Tables.{as-formula, expression-at, formula-at, Names, Apart, Binds, Under, itself, further, Way, there, down, turned, last}
@@ -253,3 +254,10 @@ module _ {X : Type 0} (M : X → ℕ → Bool) (F : Family) (es : List Expr) (ns
           , λ k. v s p s< .1 (p<, λ ch. k (sat p .0 ch .1)) )) (f .0)
         , f ))
       (λ η. part-on n (nd.Box a i c) e xs zs ys o η c refl)
+
+-- Nothing is above the whole.
+pub nothing-above : (es : List Expr) (ns : List Node) → Sound es ns → (P : ℕ → ℕ → Type 0) → Fixpoints-above ns (last ns) P
+nothing-above es ns sound P m v a b =
+    let ne : ¬ (m ≡ last ns) = a .1 in
+    let past : length ns ≤ m = omega (arith, under-le ns (sound .tree) m (last ns) (a .0), sound .some) in
+    absurd (subst (λ (y : Node). Binds v y) (getD-past ns m nd.False past) b)

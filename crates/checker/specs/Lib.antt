@@ -1,3 +1,4 @@
 pub mod Rules
 pub mod Gathered
 pub mod Walks
+pub mod Checks

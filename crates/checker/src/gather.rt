@@ -18,10 +18,11 @@ use product_sets::Kind;
 
 // For each transition the products that meet its condition, for each expression the products that satisfy it, and
 // for each variable the entry of its fixpoint.
-pub struct Gathered<'a, S> {
-    pub conditions: &'a [S],
-    pub satisfied: &'a [S],
-    pub fixpoints: &'a [usize],
+#[derive(Drop)]
+pub(crate) struct Gathered<'a, S> {
+    pub(crate) conditions: &'a [S],
+    pub(crate) satisfied: &'a [S],
+    pub(crate) fixpoints: &'a [usize],
 }
 
 impl FamilyView<'_> {
@@ -56,7 +57,7 @@ impl FamilyView<'_> {
     }
 
     // For each transition the products that meet its condition.
-    pub fn conditions<K: Kind>(&self, filler: K::Set, kind: &mut K) -> [K::Set; 256]
+    pub(crate) fn conditions<K: Kind>(&self, filler: K::Set, kind: &mut K) -> [K::Set; 256]
         requires fits { ⌜ length (now self .products .now) ≤ places ⌝ }
         ensures value { λ r. ⌜ Meeting (means (now (kind .entry))) (family-of (now (self .entry))) r filler ⌝ }
         ensures kept { λ _. ⌜ ((s : K·Set) (p : ℕ) → means (now (kind .exit)) s p ≡ means (now (kind .entry)) s p) ⌝ }
@@ -88,7 +89,7 @@ impl FamilyView<'_> {
     }
 
     // For each expression the products that satisfy it.
-    pub fn satisfied<K: Kind>(&self, exprs: &[Expr], all: K::Set, kind: &mut K) -> [K::Set; 64]
+    pub(crate) fn satisfied<K: Kind>(&self, exprs: &[Expr], all: K::Set, kind: &mut K) -> [K::Set; 64]
         requires fits { ⌜ (length (now self .products .now) ≤ places) × (length (now exprs) ≤ 64) ⌝ }
         requires lower { ⌜ Lower (now exprs) ⌝ }
         requires everyone { ⌜ Everyone (means (now kind)) (family-of (now self)) all ⌝ }
@@ -104,7 +105,7 @@ impl FamilyView<'_> {
 }
 
 // For each variable the entry of its fixpoint.
-pub fn fixpoints(exprs: &[Expr], nodes: &[Node]) -> [usize; 26]
+pub(crate) fn fixpoints(exprs: &[Expr], nodes: &[Node]) -> [usize; 26]
     requires sound { ⌜ Sound (now exprs) (now nodes) ⌝ }
     ensures { λ r. ⌜ Found (now (nodes .entry)) r ⌝ }
 {

@@ -92,7 +92,7 @@ impl FamilyView<'_> {
     }
 
     // Fills the rows of entry n and of all entries under it.
-    fn walk<K: Kind>(&self, exprs: &[Expr], nodes: &[Node], gathered: &Gathered<'_, K::Set>, all: K::Set, n: usize, kind: &mut K, cells: &mut [K::Set])
+    pub(crate) fn walk<K: Kind>(&self, exprs: &[Expr], nodes: &[Node], gathered: &Gathered<'_, K::Set>, all: K::Set, n: usize, kind: &mut K, cells: &mut [K::Set])
         requires sound { ⌜ Sound (now exprs) (now nodes) ⌝ }
         requires fits { ⌜ (n < length (now nodes)) × (length (now nodes) * now self .states ≤ length (now cells)) ⌝ }
         requires gathered { ⌜ Gathers (means (now kind)) (family-of (now self)) (now exprs) (now nodes) all (now gathered .conditions .now) (now gathered .satisfied .now) (now gathered .fixpoints .now) ⌝ }
