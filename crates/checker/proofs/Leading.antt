@@ -54,10 +54,18 @@ module _ {X : Type 0} (M : X → ℕ → Bool) (F : Family) (targets : List X) (
         → Collects M F set (Reached i s) → Collects M F set (Reached (i + 1) s)
     passed set s off k p = (
       λ t. (let b = k p .0 t in (b .0, (b .1 .0, b .1 .1, owns-before (F .transitions) i d h (config F p) s a (b .1 .0) (b .1 .2), b .1 .3))),
-      λ x. k p .1 (x .0, (x .1 .0, x .1 .1, elim (owns-split (F .transitions) i d h (config F p) s a (x .1 .0) (x .1 .2)) [
-        | inl o ↦ o
-        | inr g ↦ absurd (off (g .0 .0, g .0 .1))
-      ], x .1 .3)),
+      λ x. k p .1 (
+        x .0,
+        (
+          x .1 .0,
+          x .1 .1,
+          elim (owns-split (F .transitions) i d h (config F p) s a (x .1 .0) (x .1 .2)) [
+            | inl o ↦ o
+            | inr g ↦ absurd (off (g .0 .0, g .0 .1))
+          ],
+          x .1 .3,
+        ),
+      ),
     )
 
     pub other-action : (from : List X) → ¬ (getD (F .transitions) i d .action ≡ a) → Gathered-to from i → Gathered-to from (i + 1)
@@ -116,9 +124,11 @@ pub box-at : (F : Family) (a : ℕ) (V W : Pairs) (s p : ℕ) (all chosen from r
     → ((u : ℕ) → u < F .states → W u p ≡ (all && not (V u p))) → (T from ↔ ((p < count F) × Some-leads F a W s p)) → r ≡ (all && not (from && chosen))
     → T r ↔ ((p < count F) × (T chosen → All-lead F a V s p))
 box-at F a V W s p all chosen from r every out led e = (
-  λ t. (let b = and-split all (not (from && chosen)) (subst T e t) in
-      (every .0 (b .0), λ ch u u< o. twice (V u p) (λ no. not-iff (from && chosen) .0 (b .1)
-      (and-both from chosen (led .1 (every .0 (b .0), (u, u<, o, subst T (sym (out u u<)) (and-both all (not (V u p)) (b .0) (not-iff (V u p) .1 no))))) ch)))),
+  λ t. (let b = and-split all (not (from && chosen)) (subst T e t) in (
+    every .0 (b .0),
+    λ ch u u< o. twice (V u p) (λ no. not-iff (from && chosen) .0 (b .1)
+        (and-both from chosen (led .1 (every .0 (b .0), (u, u<, o, subst T (sym (out u u<)) (and-both all (not (V u p)) (b .0) (not-iff (V u p) .1 no))))) ch)),
+  )),
   λ x. subst T (sym e) (and-both all (not (from && chosen)) (every .1 (x .0)) (not-iff (from && chosen) .1 (λ t.
       let b = and-split from chosen t in
       let y = led .0 (b .0) .1 in

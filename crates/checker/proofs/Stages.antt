@@ -50,9 +50,9 @@ climb ns v m r p k itself w = inr (k, w)
 climb ns v m r p k (further {p = q} u h) w = elim (binds-or v (entry ns q)) [
   | inl b ↦ inl (q, further itself h, b)
   | inr nb ↦ elim (climb ns v m r q (turned (entry ns q) k) u (down h nb refl w)) [
-      | inl x ↦ inl (x .0, further (x .1) h, x .2)
-      | inr y ↦ inr y
-    ]
+    | inl x ↦ inl (x .0, further (x .1) h, x .2)
+    | inr y ↦ inr y
+  ]
 ]
 
 -- Every variable has a fixpoint above it.
@@ -134,16 +134,16 @@ module _ {X : Type 0} (M : X → ℕ → Bool) (F : Family) (es : List Expr) (ns
 
     pub walked : Only-products F (R ys n) → ((c : ℕ) → Names c x → (m : ℕ) → Under ns c m → Only-products F (R zs m))
         → ((η : Env Pairs) → Fixpoints-above ns n (λ v m. Same F (η v) (R xs m))
-          → Means F (R ys n) (as-formula (expression-at es) (formula-at es ns) x) η × Parts (Filled F es ns (R zs)) η (R ys n) x)
+        → Means F (R ys n) (as-formula (expression-at es) (formula-at es ns) x) η × Parts (Filled F es ns (R zs)) η (R ys n) x)
         → ((η : Env Pairs) → Parts (Filled F es ns (R zs)) η (R ys n) x → Parts (Filled F es ns (R ys)) η (R ys n) x) → Walked F es ns (R xs) (R ys) n
     walked here under means on = record {
-        products = λ m u. elim (under-top ns (sound .tree) n m u) [
-          | inl q ↦ subst (λ (z : ℕ). Only-products F (R ys z)) q here
-          | inr w ↦ λ s p s< t. under (w .0) (subst (λ (y : Node). Names (w .0) y) e (w .1)) m (w .2) s p s<
-              (subst T (others-row n zs ys o m (λ q. omega (arith, under-le ns (sound .tree) (w .0) m (w .2), sound .tree .lower n (w .0) (w .1))) s p s<) t)
-        ];
-        filled = λ η h. fill-as F es ns (sound .tree) (R ys) η n x e (means η h .0) (on η (means η h .1))
-      }
+      products = λ m u. elim (under-top ns (sound .tree) n m u) [
+        | inl q ↦ subst (λ (z : ℕ). Only-products F (R ys z)) q here
+        | inr w ↦ λ s p s< t. under (w .0) (subst (λ (y : Node). Names (w .0) y) e (w .1)) m (w .2) s p s<
+            (subst T (others-row n zs ys o m (λ q. omega (arith, under-le ns (sound .tree) (w .0) m (w .2), sound .tree .lower n (w .0) (w .1))) s p s<) t)
+      ];
+      filled = λ η h. fill-as F es ns (sound .tree) (R ys) η n x e (means η h .0) (on η (means η h .1));
+    }
 
     pub part-on : (η : Env Pairs) (c : ℕ) → Names c x → Filled F es ns (R zs) η c → Filled F es ns (R ys) η c
     part-on η c nc = filled-below F es ns (sound .tree) (R zs) (R ys) η n c (sound .tree .lower n c (names c nc)) (below-same n zs ys o)
@@ -171,11 +171,13 @@ module _ {X : Type 0} (M : X → ℕ → Bool) (F : Family) (es : List Expr) (ns
       let nc : Names c (entry ns n) = subst (λ (y : Node). Names c y) (sym e) refl in
       walked n (nd.Not c) e xs zs ys o (λ s p s< t. every p .0 (and-split (M all p) (not (R zs c s p)) (subst T (v s p s<) t) .0))
       (λ d q m u. w .products m (subst (λ (z : ℕ). Under ns z m) q u))
-      (λ η h. let f = w .filled η (to-part (λ u m. Same F (η u) (R xs m)) n c nc (λ u b. absurd (subst (λ (y : Node). Binds u y) e b)) h) in
-        ( means-not F (R ys n) (R zs c) (formula-at es ns c) η (λ s p s< p<.
-          ( λ t. not-iff (R zs c s p) .0 (and-split (M all p) (not (R zs c s p)) (subst T (v s p s<) t) .1)
-          , λ t. subst T (sym (v s p s<)) (and-both (M all p) (not (R zs c s p)) (every p .1 p<) (not-iff (R zs c s p) .1 t)) )) (f .0)
-        , f ))
+      (λ η h. let f = w .filled η (to-part (λ u m. Same F (η u) (R xs m)) n c nc (λ u b. absurd (subst (λ (y : Node). Binds u y) e b)) h) in (
+        means-not F (R ys n) (R zs c) (formula-at es ns c) η (λ s p s< p<. (
+          λ t. not-iff (R zs c s p) .0 (and-split (M all p) (not (R zs c s p)) (subst T (v s p s<) t) .1),
+          λ t. subst T (sym (v s p s<)) (and-both (M all p) (not (R zs c s p)) (every p .1 p<) (not-iff (R zs c s p) .1 t)),
+        )) (f .0),
+        f,
+      ))
       (λ η. part-on n (nd.Not c) e xs zs ys o η c refl)
 
   -- Two parts, one walked after the other.
@@ -205,11 +207,13 @@ module _ {X : Type 0} (M : X → ℕ → Bool) (F : Family) (es : List Expr) (ns
       walked n (nd.Or c d) e xs zs ys o
       (λ s p s< t. elim (or-split (R zs c s p) (R zs d s p) (subst T (v s p s<) t)) [ inl x ↦ first-products n c d xs bs zs nc md ne nb fc wc fd wd c itself s p s< x | inr x ↦ wd .products d itself s p s< x ])
       (λ k q m u. elim q [ inl i ↦ first-products n c d xs bs zs nc md ne nb fc wc fd wd m (subst (λ (z : ℕ). Under ns z m) i u) | inr i ↦ wd .products m (subst (λ (z : ℕ). Under ns z m) i u) ])
-      (λ η h. let f = first-filled n c d xs bs zs nc md ne nb fc wc fd wd η h in let g = second-filled n c d xs bs zs nc md ne nb fc wc fd wd η h in
-        ( means-or F (R ys n) (R zs c) (R zs d) (formula-at es ns c) (formula-at es ns d) η (λ s p s< p<.
-          ( λ t. or-split (R zs c s p) (R zs d s p) (subst T (v s p s<) t)
-          , λ t. subst T (sym (v s p s<)) (elim t [ inl x ↦ or-left (R zs c s p) (R zs d s p) x | inr x ↦ or-right (R zs c s p) (R zs d s p) x ]) )) (f .0) (g .0)
-        , (f, g) ))
+      (λ η h. let f = first-filled n c d xs bs zs nc md ne nb fc wc fd wd η h in let g = second-filled n c d xs bs zs nc md ne nb fc wc fd wd η h in (
+        means-or F (R ys n) (R zs c) (R zs d) (formula-at es ns c) (formula-at es ns d) η (λ s p s< p<. (
+          λ t. or-split (R zs c s p) (R zs d s p) (subst T (v s p s<) t),
+          λ t. subst T (sym (v s p s<)) (elim t [ inl x ↦ or-left (R zs c s p) (R zs d s p) x | inr x ↦ or-right (R zs c s p) (R zs d s p) x ]),
+        )) (f .0) (g .0),
+        (f, g),
+      ))
       (λ η y. (part-on n (nd.Or c d) e xs zs ys o η c (inl refl) (y .0), part-on n (nd.Or c d) e xs zs ys o η d (inr refl) (y .1)))
 
   pub walked-and : (n c d : ℕ) (xs bs zs ys : List X) → entry ns n ≡ nd.And c d → Framed ns (F .states) c xs bs → Walked F es ns (R xs) (R bs) c → Framed ns (F .states) d bs zs → Walked F es ns (R bs) (R zs) d
@@ -222,11 +226,13 @@ module _ {X : Type 0} (M : X → ℕ → Bool) (F : Family) (es : List Expr) (ns
       walked n (nd.And c d) e xs zs ys o
       (λ s p s< t. wd .products d itself s p s< (and-split (R zs c s p) (R zs d s p) (subst T (v s p s<) t) .1))
       (λ k q m u. elim q [ inl i ↦ first-products n c d xs bs zs nc md ne nb fc wc fd wd m (subst (λ (z : ℕ). Under ns z m) i u) | inr i ↦ wd .products m (subst (λ (z : ℕ). Under ns z m) i u) ])
-      (λ η h. let f = first-filled n c d xs bs zs nc md ne nb fc wc fd wd η h in let g = second-filled n c d xs bs zs nc md ne nb fc wc fd wd η h in
-        ( means-and F (R ys n) (R zs c) (R zs d) (formula-at es ns c) (formula-at es ns d) η (λ s p s< p<.
-          ( λ t. and-split (R zs c s p) (R zs d s p) (subst T (v s p s<) t)
-          , λ t. subst T (sym (v s p s<)) (and-both (R zs c s p) (R zs d s p) (t .0) (t .1)) )) (f .0) (g .0)
-        , (f, g) ))
+      (λ η h. let f = first-filled n c d xs bs zs nc md ne nb fc wc fd wd η h in let g = second-filled n c d xs bs zs nc md ne nb fc wc fd wd η h in (
+        means-and F (R ys n) (R zs c) (R zs d) (formula-at es ns c) (formula-at es ns d) η (λ s p s< p<. (
+          λ t. and-split (R zs c s p) (R zs d s p) (subst T (v s p s<) t),
+          λ t. subst T (sym (v s p s<)) (and-both (R zs c s p) (R zs d s p) (t .0) (t .1)),
+        )) (f .0) (g .0),
+        (f, g),
+      ))
       (λ η y. (part-on n (nd.And c d) e xs zs ys o η c (inl refl) (y .0), part-on n (nd.And c d) e xs zs ys o η d (inr refl) (y .1)))
 
   pub walked-diamond : (n a i c : ℕ) (chosen : X) (xs zs ys : List X) → entry ns n ≡ nd.Diamond a i c → Collects M F chosen (λ p. T (satisfies (config F p) (expression-at es i))) → Walked F es ns (R xs) (R zs) c
@@ -235,11 +241,13 @@ module _ {X : Type 0} (M : X → ℕ → Bool) (F : Family) (es : List Expr) (ns
       let nc : Names c (entry ns n) = subst (λ (y : Node). Names c y) (sym e) refl in
       walked n (nd.Diamond a i c) e xs zs ys o (λ s p s< t. v s p s< .0 t .1 .0)
       (λ d q m u. w .products m (subst (λ (z : ℕ). Under ns z m) q u))
-      (λ η h. let f = w .filled η (to-part (λ u m. Same F (η u) (R xs m)) n c nc (λ u b. absurd (subst (λ (y : Node). Binds u y) e b)) h) in
-        ( means-diamond F (R ys n) (R zs c) a (expression-at es i) (formula-at es ns c) η (λ s p s< p<.
-          ( λ t. (let y = v s p s< .0 t in (sat p .0 (y .0) .1, y .1 .1))
-          , λ y. v s p s< .1 (sat p .1 (p<, y .0), (p<, y .1)) )) (f .0)
-        , f ))
+      (λ η h. let f = w .filled η (to-part (λ u m. Same F (η u) (R xs m)) n c nc (λ u b. absurd (subst (λ (y : Node). Binds u y) e b)) h) in (
+        means-diamond F (R ys n) (R zs c) a (expression-at es i) (formula-at es ns c) η (λ s p s< p<. (
+          λ t. (let y = v s p s< .0 t in (sat p .0 (y .0) .1, y .1 .1)),
+          λ y. v s p s< .1 (sat p .1 (p<, y .0), (p<, y .1)),
+        )) (f .0),
+        f,
+      ))
       (λ η. part-on n (nd.Diamond a i c) e xs zs ys o η c refl)
 
   pub walked-box : (n a i c : ℕ) (chosen : X) (xs zs ys : List X) → entry ns n ≡ nd.Box a i c → Collects M F chosen (λ p. T (satisfies (config F p) (expression-at es i))) → Walked F es ns (R xs) (R zs) c
@@ -248,11 +256,13 @@ module _ {X : Type 0} (M : X → ℕ → Bool) (F : Family) (es : List Expr) (ns
       let nc : Names c (entry ns n) = subst (λ (y : Node). Names c y) (sym e) refl in
       walked n (nd.Box a i c) e xs zs ys o (λ s p s< t. v s p s< .0 t .0)
       (λ d q m u. w .products m (subst (λ (z : ℕ). Under ns z m) q u))
-      (λ η h. let f = w .filled η (to-part (λ u m. Same F (η u) (R xs m)) n c nc (λ u b. absurd (subst (λ (y : Node). Binds u y) e b)) h) in
-        ( means-box F (R ys n) (R zs c) a (expression-at es i) (formula-at es ns c) η (λ s p s< p<.
-          ( λ t sa u u< own. v s p s< .0 t .1 (sat p .1 (p<, sa)) u u< own
-          , λ k. v s p s< .1 (p<, λ ch. k (sat p .0 ch .1)) )) (f .0)
-        , f ))
+      (λ η h. let f = w .filled η (to-part (λ u m. Same F (η u) (R xs m)) n c nc (λ u b. absurd (subst (λ (y : Node). Binds u y) e b)) h) in (
+        means-box F (R ys n) (R zs c) a (expression-at es i) (formula-at es ns c) η (λ s p s< p<. (
+          λ t sa u u< own. v s p s< .0 t .1 (sat p .1 (p<, sa)) u u< own,
+          λ k. v s p s< .1 (p<, λ ch. k (sat p .0 ch .1)),
+        )) (f .0),
+        f,
+      ))
       (λ η. part-on n (nd.Box a i c) e xs zs ys o η c refl)
 
 -- Nothing is above the whole.

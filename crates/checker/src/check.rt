@@ -18,7 +18,9 @@ use product_sets::Kind;
 use product_sets::first;
 
 const ACCEPTED: u8 = 0;
+
 const TOO_MANY_PRODUCTS: u8 = 17;
+
 const TOO_FEW_CELLS: u8 = 18;
 
 impl FamilyView<'_> {
@@ -59,7 +61,13 @@ impl FamilyView<'_> {
     // Checks a formula. Accepted, the cell of entry n and state s, n × states + s, holds the products for which the
     // entry holds there, a variable standing for the final set of its fixpoint, and the value is how many products
     // have the last entry in state 0.
-    pub fn check<K: Kind>(&self, exprs: &[Expr], nodes: &[Node], kind: &mut K, cells: &mut [K::Set]) -> (u8, usize)
+    pub fn check<K: Kind>(
+        &self,
+        exprs: &[Expr],
+        nodes: &[Node],
+        kind: &mut K,
+        cells: &mut [K::Set],
+    ) -> (u8, usize)
         ensures answer { λ r. ⌜ ((d : K·Set) → Answered (family-of (now (self .entry))) (now (exprs .entry)) (now (nodes .entry)) places (length (now (cells .entry))) (means (now (kind .exit)) (getD (now (cells .exit)) (last (now (nodes .entry)) * now (self .entry) .states) d)) (r .0) (r .1)) ⌝ }
         ensures refused { λ r. ⌜ ((r .0 ≡ 0 → ⊥) → (now (kind .exit) ≡ now (kind .entry)) × (now (cells .exit) ≡ now (cells .entry))) ⌝ }
         ensures filled { λ r. ⌜ (r .0 ≡ 0 → (d : K·Set) → Filled (family-of (now (self .entry))) (now (exprs .entry)) (now (nodes .entry)) (row-of (means (now (kind .exit))) (now (self .entry) .states) (now (cells .exit)) d) no-pairs (last (now (nodes .entry)))) ⌝ }
@@ -78,6 +86,9 @@ impl FamilyView<'_> {
             return (TOO_FEW_CELLS, 0);
         }
         self.fill(exprs, nodes, kind, cells);
-        (ACCEPTED, self.count_in(cells[(nodes.len() - 1) * self.states], kind))
+        (
+            ACCEPTED,
+            self.count_in(cells[(nodes.len() - 1) * self.states], kind),
+        )
     }
 }

@@ -70,7 +70,14 @@ impl FamilyView<'_> {
     }
 
     // The products that satisfy entry n of an expression table, from those that satisfy its parts.
-    fn satisfying<K: Kind>(&self, exprs: &[Expr], n: usize, all: K::Set, sets: &[K::Set], kind: &mut K) -> K::Set
+    fn satisfying<K: Kind>(
+        &self,
+        exprs: &[Expr],
+        n: usize,
+        all: K::Set,
+        sets: &[K::Set],
+        kind: &mut K,
+    ) -> K::Set
         requires fits { ⌜ (length (now self .products .now) ≤ places) × (n < length (now exprs)) × (length (now exprs) ≤ 64) × (length (now sets) ≡ 64) ⌝ }
         requires lower { ⌜ Lower (now exprs) ⌝ }
         requires everyone { ⌜ Everyone (means (now kind)) (family-of (now self)) all ⌝ }
@@ -89,7 +96,12 @@ impl FamilyView<'_> {
     }
 
     // For each expression the products that satisfy it.
-    pub(crate) fn satisfied<K: Kind>(&self, exprs: &[Expr], all: K::Set, kind: &mut K) -> [K::Set; 64]
+    pub(crate) fn satisfied<K: Kind>(
+        &self,
+        exprs: &[Expr],
+        all: K::Set,
+        kind: &mut K,
+    ) -> [K::Set; 64]
         requires fits { ⌜ (length (now self .products .now) ≤ places) × (length (now exprs) ≤ 64) ⌝ }
         requires lower { ⌜ Lower (now exprs) ⌝ }
         requires everyone { ⌜ Everyone (means (now kind)) (family-of (now self)) all ⌝ }

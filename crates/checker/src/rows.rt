@@ -46,7 +46,14 @@ fn cell<K: Kind>(kind: &mut K, rule: Rule, all: K::Set, left: K::Set, right: K::
 }
 
 // Writes a row from two others.
-pub(crate) fn write_row<K: Kind>(kind: &mut K, rule: Rule, all: K::Set, row: &mut [K::Set], left: &[K::Set], right: &[K::Set])
+pub(crate) fn write_row<K: Kind>(
+    kind: &mut K,
+    rule: Rule,
+    all: K::Set,
+    row: &mut [K::Set],
+    left: &[K::Set],
+    right: &[K::Set],
+)
     requires fits { ⌜ (length (now row) ≤ length (now left)) × (length (now row) ≤ length (now right)) ⌝ }
     ensures value { λ _. ⌜ ((s : ℕ) (x : K·Set) (p : ℕ) → s < length (now (row .entry)) → means (now (kind .entry)) (getD (now (row .exit)) s x) p ≡ ruled rule (means (now (kind .entry)) all p) (means (now (kind .entry)) (getD (now (left .entry)) s x) p) (means (now (kind .entry)) (getD (now (right .entry)) s x) p)) ⌝ }
     ensures kept { λ _. ⌜ ((s : K·Set) (p : ℕ) → means (now (kind .exit)) s p ≡ means (now (kind .entry)) s p) ⌝ }
@@ -57,7 +64,12 @@ pub(crate) fn write_row<K: Kind>(kind: &mut K, rule: Rule, all: K::Set, row: &mu
 }
 
 // A copy of the cells from `start` on, `states` of them.
-pub(crate) fn taken<K: Kind>(cells: &[K::Set], start: usize, states: usize, filler: K::Set) -> [K::Set; 64]
+pub(crate) fn taken<K: Kind>(
+    cells: &[K::Set],
+    start: usize,
+    states: usize,
+    filler: K::Set,
+) -> [K::Set; 64]
     requires fits { ⌜ (start + states ≤ length (now cells)) × (states ≤ 64) ⌝ }
     ensures { λ r. ⌜ ((s : ℕ) (x : K·Set) → s < states → getD r s x ≡ getD (now (cells .entry)) (start + s) x) ⌝ }
 {
@@ -82,7 +94,13 @@ pub(crate) fn complement<K: Kind>(kind: &mut K, all: K::Set, row: &[K::Set]) -> 
 }
 
 // Whether the rows from two places on mean the same.
-pub(crate) fn same_rows<K: Kind>(kind: &K, cells: &[K::Set], a: usize, b: usize, states: usize) -> bool
+pub(crate) fn same_rows<K: Kind>(
+    kind: &K,
+    cells: &[K::Set],
+    a: usize,
+    b: usize,
+    states: usize,
+) -> bool
     requires fits { ⌜ (a + states ≤ length (now cells)) × (b + states ≤ length (now cells)) ⌝ }
     ensures sound { λ r. ⌜ (r ≡ true → (s : ℕ) (x : K·Set) (p : ℕ) → s < states → means (now (kind .entry)) (getD (now (cells .entry)) (a + s) x) p ≡ means (now (kind .entry)) (getD (now (cells .entry)) (b + s) x) p) ⌝ }
     ensures full { λ r. ⌜ (((s : ℕ) (x : K·Set) (p : ℕ) → s < states → means (now (kind .entry)) (getD (now (cells .entry)) (a + s) x) p ≡ means (now (kind .entry)) (getD (now (cells .entry)) (b + s) x) p) → r ≡ true) ⌝ }

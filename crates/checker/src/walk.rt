@@ -22,18 +22,43 @@ use product_sets::Kind;
 
 impl FamilyView<'_> {
     // Writes the row of entry n from two others.
-    fn write_entry<K: Kind>(&self, rule: Rule, all: K::Set, n: usize, left: &[K::Set], right: &[K::Set], kind: &mut K, cells: &mut [K::Set])
+    fn write_entry<K: Kind>(
+        &self,
+        rule: Rule,
+        all: K::Set,
+        n: usize,
+        left: &[K::Set],
+        right: &[K::Set],
+        kind: &mut K,
+        cells: &mut [K::Set],
+    )
         requires fits { ⌜ (n * now self .states + now self .states ≤ length (now cells)) × (length (now left) ≡ 64) × (length (now right) ≡ 64) ⌝ }
         ensures value { λ _. ⌜ ((s p : ℕ) → s < now (self .entry) .states → row-of (means (now (kind .entry))) (now (self .entry) .states) (now (cells .exit)) all n s p ≡ ruled rule (means (now (kind .entry)) all p) (means (now (kind .entry)) (getD (now (left .entry)) s all) p) (means (now (kind .entry)) (getD (now (right .entry)) s all) p)) ⌝ }
         ensures others { λ _. ⌜ Only-row (now (self .entry) .states) n (now (cells .entry)) (now (cells .exit)) ⌝ }
         ensures kept { λ _. ⌜ ((s : K·Set) (p : ℕ) → means (now (kind .exit)) s p ≡ means (now (kind .entry)) s p) ⌝ }
     {
         let start = n * self.states;
-        write_row(kind, rule, all, &mut cells[start..start + self.states], left, right);
+        write_row(
+            kind,
+            rule,
+            all,
+            &mut cells[start..start + self.states],
+            left,
+            right,
+        );
     }
 
     // Writes the row of entry n from the rows of c and d.
-    fn combine<K: Kind>(&self, rule: Rule, all: K::Set, n: usize, c: usize, d: usize, kind: &mut K, cells: &mut [K::Set])
+    fn combine<K: Kind>(
+        &self,
+        rule: Rule,
+        all: K::Set,
+        n: usize,
+        c: usize,
+        d: usize,
+        kind: &mut K,
+        cells: &mut [K::Set],
+    )
         requires fits { ⌜ (n * now self .states + now self .states ≤ length (now cells)) × (c * now self .states + now self .states ≤ length (now cells)) × (d * now self .states + now self .states ≤ length (now cells)) ⌝ }
         ensures value { λ _. ⌜ ((s p : ℕ) → s < now (self .entry) .states → row-of (means (now (kind .entry))) (now (self .entry) .states) (now (cells .exit)) all n s p ≡ ruled rule (means (now (kind .entry)) all p) (row-of (means (now (kind .entry))) (now (self .entry) .states) (now (cells .entry)) all c s p) (row-of (means (now (kind .entry))) (now (self .entry) .states) (now (cells .entry)) all d s p)) ⌝ }
         ensures others { λ _. ⌜ Only-row (now (self .entry) .states) n (now (cells .entry)) (now (cells .exit)) ⌝ }
@@ -46,7 +71,13 @@ impl FamilyView<'_> {
 
     // For each state the products with an own transition by the action into the targets. Like transitions are
     // joined: it is enough that the condition of one is met.
-    fn sources<K: Kind>(&self, gathered: &Gathered<'_, K::Set>, action: u8, targets: &[K::Set], kind: &mut K) -> [K::Set; 64]
+    fn sources<K: Kind>(
+        &self,
+        gathered: &Gathered<'_, K::Set>,
+        action: u8,
+        targets: &[K::Set],
+        kind: &mut K,
+    ) -> [K::Set; 64]
         requires fits { ⌜ (length (now gathered .conditions .now) ≡ 256) × (length (now targets) ≡ 64) ⌝ }
         ensures value { λ r. ⌜ ((d : K·Set) → Meeting (means (now (kind .entry))) (family-of (now (self .entry))) (now (gathered .entry) .conditions .now) d → (s : ℕ) → s < now (self .entry) .states → Collects (means (now (kind .entry))) (family-of (now (self .entry))) (getD r s d) (Some-leads (family-of (now (self .entry))) action (λ u. means (now (kind .entry)) (getD (now (targets .entry)) u d)) s)) ⌝ }
         ensures kept { λ _. ⌜ ((s : K·Set) (p : ℕ) → means (now (kind .exit)) s p ≡ means (now (kind .entry)) s p) ⌝ }
@@ -64,7 +95,17 @@ impl FamilyView<'_> {
     }
 
     // Writes the row of entry n, a diamond over the part c for the chosen products.
-    fn diamond<K: Kind>(&self, gathered: &Gathered<'_, K::Set>, all: K::Set, action: u8, chosen: K::Set, n: usize, c: usize, kind: &mut K, cells: &mut [K::Set])
+    fn diamond<K: Kind>(
+        &self,
+        gathered: &Gathered<'_, K::Set>,
+        all: K::Set,
+        action: u8,
+        chosen: K::Set,
+        n: usize,
+        c: usize,
+        kind: &mut K,
+        cells: &mut [K::Set],
+    )
         requires meeting { ⌜ Meeting (means (now kind)) (family-of (now self)) (now gathered .conditions .now) all ⌝ }
         requires fits { ⌜ (length (now gathered .conditions .now) ≡ 256) × (n * now self .states + now self .states ≤ length (now cells)) × (c * now self .states + now self .states ≤ length (now cells)) ⌝ }
         ensures value { λ _. ⌜ ((s p : ℕ) → s < now (self .entry) .states → T (row-of (means (now (kind .entry))) (now (self .entry) .states) (now (cells .exit)) all n s p) ↔ (T (means (now (kind .entry)) chosen p) × ((p < count (family-of (now (self .entry)))) × Some-leads (family-of (now (self .entry))) action (row-of (means (now (kind .entry))) (now (self .entry) .states) (now (cells .entry)) all c) s p))) ⌝ }
@@ -77,7 +118,17 @@ impl FamilyView<'_> {
     }
 
     // Writes the row of entry n, a box over the part c for the chosen products: no transition leads out of the part.
-    fn box_over<K: Kind>(&self, gathered: &Gathered<'_, K::Set>, all: K::Set, action: u8, chosen: K::Set, n: usize, c: usize, kind: &mut K, cells: &mut [K::Set])
+    fn box_over<K: Kind>(
+        &self,
+        gathered: &Gathered<'_, K::Set>,
+        all: K::Set,
+        action: u8,
+        chosen: K::Set,
+        n: usize,
+        c: usize,
+        kind: &mut K,
+        cells: &mut [K::Set],
+    )
         requires meeting { ⌜ Meeting (means (now kind)) (family-of (now self)) (now gathered .conditions .now) all ⌝ }
         requires everyone { ⌜ Everyone (means (now kind)) (family-of (now self)) all ⌝ }
         requires fits { ⌜ (length (now gathered .conditions .now) ≡ 256) × (n * now self .states + now self .states ≤ length (now cells)) × (c * now self .states + now self .states ≤ length (now cells)) ⌝ }
@@ -92,7 +143,16 @@ impl FamilyView<'_> {
     }
 
     // Fills the rows of entry n and of all entries under it.
-    pub(crate) fn walk<K: Kind>(&self, exprs: &[Expr], nodes: &[Node], gathered: &Gathered<'_, K::Set>, all: K::Set, n: usize, kind: &mut K, cells: &mut [K::Set])
+    pub(crate) fn walk<K: Kind>(
+        &self,
+        exprs: &[Expr],
+        nodes: &[Node],
+        gathered: &Gathered<'_, K::Set>,
+        all: K::Set,
+        n: usize,
+        kind: &mut K,
+        cells: &mut [K::Set],
+    )
         requires sound { ⌜ Sound (now exprs) (now nodes) ⌝ }
         requires fits { ⌜ (n < length (now nodes)) × (length (now nodes) * now self .states ≤ length (now cells)) ⌝ }
         requires gathered { ⌜ Gathers (means (now kind)) (family-of (now self)) (now exprs) (now nodes) all (now gathered .conditions .now) (now gathered .satisfied .now) (now gathered .fixpoints .now) ⌝ }
@@ -120,23 +180,72 @@ impl FamilyView<'_> {
             }
             Node::Diamond { action, expr, part } => {
                 self.walk(exprs, nodes, gathered, all, part, kind, cells);
-                self.diamond(gathered, all, action, gathered.satisfied[expr], n, part, kind, cells);
+                self.diamond(
+                    gathered,
+                    all,
+                    action,
+                    gathered.satisfied[expr],
+                    n,
+                    part,
+                    kind,
+                    cells,
+                );
             }
             Node::Box { action, expr, part } => {
                 self.walk(exprs, nodes, gathered, all, part, kind, cells);
-                self.box_over(gathered, all, action, gathered.satisfied[expr], n, part, kind, cells);
+                self.box_over(
+                    gathered,
+                    all,
+                    action,
+                    gathered.satisfied[expr],
+                    n,
+                    part,
+                    kind,
+                    cells,
+                );
             }
             Node::Variable(v) => {
                 let fixpoint = gathered.fixpoints[v as usize];
                 self.combine(Rule::Copied, all, n, fixpoint, fixpoint, kind, cells);
             }
-            Node::Least(_, c) => self.iterate(Rule::Nothing, exprs, nodes, gathered, all, n, c, kind, cells),
-            Node::Greatest(_, c) => self.iterate(Rule::Everything, exprs, nodes, gathered, all, n, c, kind, cells),
+            Node::Least(_, c) => self.iterate(
+                Rule::Nothing,
+                exprs,
+                nodes,
+                gathered,
+                all,
+                n,
+                c,
+                kind,
+                cells,
+            ),
+            Node::Greatest(_, c) => self.iterate(
+                Rule::Everything,
+                exprs,
+                nodes,
+                gathered,
+                all,
+                n,
+                c,
+                kind,
+                cells,
+            ),
         }
     }
 
     // Fills the rows of a fixpoint n over the part c: it starts anew, and goes on until a round changes nothing.
-    fn iterate<K: Kind>(&self, start: Rule, exprs: &[Expr], nodes: &[Node], gathered: &Gathered<'_, K::Set>, all: K::Set, n: usize, c: usize, kind: &mut K, cells: &mut [K::Set])
+    fn iterate<K: Kind>(
+        &self,
+        start: Rule,
+        exprs: &[Expr],
+        nodes: &[Node],
+        gathered: &Gathered<'_, K::Set>,
+        all: K::Set,
+        n: usize,
+        c: usize,
+        kind: &mut K,
+        cells: &mut [K::Set],
+    )
         requires starts { ⌜ Starts start c (entry (now nodes) n) ⌝ }
         requires sound { ⌜ Sound (now exprs) (now nodes) ⌝ }
         requires fits { ⌜ (n < length (now nodes)) × (length (now nodes) * now self .states ≤ length (now cells)) ⌝ }

@@ -26,8 +26,8 @@ loop-n-again c =
           (found-same (c .args .nodes .now) (c .pre .sound .single) (c .loop-n .found) (c .loop-n .n) (no-fixpoint _ (w .in-rest .not-Least) (w .in-rest .not-Greatest)) (c .loop-n .inv))
       | in-Least2 w ↦ (
           let more : Binds (w .in-Least .v) (entry (c .args .nodes .now) (c .loop-n .n)) → w .in-Least .v ≤ 25 → Found-to (c .args .nodes .now) (c .match-nodes-n .found) (c .loop-n .n + 1) =
-            λ b h. subst (λ xs. Found-to (c .args .nodes .now) xs (c .loop-n .n + 1)) (sym (w .found-is))
-            (found-more (c .args .nodes .now) (c .pre .sound .single) (c .loop-n .found) (c .loop-n .n) (w .in-Least .v) h (omega arith) b (c .loop-n .inv)) in
+          λ b h. subst (λ xs. Found-to (c .args .nodes .now) xs (c .loop-n .n + 1)) (sym (w .found-is))
+          (found-more (c .args .nodes .now) (c .pre .sound .single) (c .loop-n .found) (c .loop-n .n) (w .in-Least .v) h (omega arith) b (c .loop-n .inv)) in
           elim (w .in-Least .is) [
             | inl x ↦ more (subst (λ (y : Node). Binds (w .in-Least .v) y) (sym (x .1)) refl) (subst (λ (y : Node). Carries (c .args .exprs .now) y) (x .1) (c .pre .sound .carries (c .loop-n .n)))
             | inr x ↦ more (subst (λ (y : Node). Binds (w .in-Least .v) y) (sym (x .1)) refl) (subst (λ (y : Node). Carries (c .args .exprs .now) y) (x .1) (c .pre .sound .carries (c .loop-n .n)))

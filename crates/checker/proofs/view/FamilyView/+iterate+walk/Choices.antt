@@ -19,7 +19,7 @@ Inv-iterate-rounds g l =
     × Framed (l .nodes) (l .self .states) (l .n) (l .entry .cells) (l .cells)
     × Only-products (family-of (l .self)) (rows (g .K·Kind .means (l .entry .kind)) (l .self .states) (l .cells) (l .all) (l .n))
     × ((η : Env Pairs) → Fixpoints-above (l .nodes) (l .n) (λ v m. Same (family-of (l .self)) (η v) (rows (g .K·Kind .means (l .entry .kind)) (l .self .states) (l .entry .cells) (l .all) m))
-        → Round (family-of (l .self)) (l .exprs) (l .nodes) η (l .c) (entry (l .nodes) (l .n)) (rows (g .K·Kind .means (l .entry .kind)) (l .self .states) (l .cells) (l .all) (l .n)))
+    → Round (family-of (l .self)) (l .exprs) (l .nodes) η (l .c) (entry (l .nodes) (l .n)) (rows (g .K·Kind .means (l .entry .kind)) (l .self .states) (l .cells) (l .all) (l .n)))
 
 abbrev pub μ-iterate-rounds : given.MeasureT-iterate-rounds
 μ-iterate-rounds g l = rank (family-of (l .self)) (entry (l .nodes) (l .n)) (rows (g .K·Kind .means (l .entry .kind)) (l .self .states) (l .cells) (l .all) (l .n))

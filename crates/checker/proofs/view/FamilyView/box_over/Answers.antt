@@ -18,9 +18,10 @@ each-not : {a b c x y z : Bool} → a ≡ x → b ≡ y → c ≡ z → (a && no
 each-not e f h = cc
 
 pub sources-from-requires : need.sources-from-requires
-sources-from-requires g c κs =
-    ( omega (arith, g .K·Kind·met .roomy)
-    , (c .pre .fits .0, search needs) )
+sources-from-requires g c κs = (
+  omega (arith, g .K·Kind·met .roomy),
+  (c .pre .fits .0, search needs),
+)
 
 pub returns : need.returns
 returns g c =
@@ -40,5 +41,5 @@ returns g c =
           (c .sources-from .ensures .value all (subst (λ m. Meeting m F (c .args .gathered .now .conditions .now) all) one (c .pre .meeting)) s h p))
           (sym (k1 _ p) ∙ c .write-entry .ensures .value s p h ∙ each-not (k1 _ p) (k1 _ p) (k1 _ p ∙ ap (λ y. M y p) (getD-replicate 64 s (c .args .chosen) all (omega arith))));
       others = c .write-entry .ensures .others;
-      kept = λ x p. c .write-entry .ensures .kept x p ∙ k1 x p
+      kept = λ x p. c .write-entry .ensures .kept x p ∙ k1 x p;
     }

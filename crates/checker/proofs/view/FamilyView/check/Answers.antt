@@ -22,7 +22,7 @@ returns-then-number-ne-ACCEPTED g c =
       filled = λ e. absurd (off e);
       products = λ e. absurd (off e);
       beyond = λ e. absurd (off e);
-      kept = λ s p. refl
+      kept = λ s p. refl;
     }
 
 pub returns-then-self-places-count : need.returns-then-self-places-count
@@ -33,7 +33,7 @@ returns-then-self-places-count g c =
       filled = λ e. absurd (omega arith);
       products = λ e. absurd (omega arith);
       beyond = λ e. absurd (omega arith);
-      kept = λ s p. refl
+      kept = λ s p. refl;
     }
 
 pub returns-then-cells-nodes : need.returns-then-cells-nodes
@@ -44,7 +44,7 @@ returns-then-cells-nodes g c =
       filled = λ e. absurd (omega arith);
       products = λ e. absurd (omega arith);
       beyond = λ e. absurd (omega arith);
-      kept = λ s p. refl
+      kept = λ s p. refl;
     }
 
 pub returns : need.returns
@@ -56,15 +56,15 @@ returns g c =
     let r = row-fits (last ns) (length ns) S (length (c .fill .last .cells)) (omega (arith, sound .some)) (omega arith) in
     record {
       answer = λ d.
-        let read : c .index-cells-nodes .result ≡ getD (c .fill .last .cells) (last ns * S) d =
+          let read : c .index-cells-nodes .result ≡ getD (c .fill .last .cells) (last ns * S) d =
           getD-read (c .fill .last .cells) (last ns * S) (c .index-cells-nodes .result) (omega arith) (c .index-cells-nodes .is) d in
-        let value : how-many (count F) (g .K·Kind .means (c .fill .last .kind) (getD (c .fill .last .cells) (last ns * S) d)) ≡ c .count-in .result =
+          let value : how-many (count F) (g .K·Kind .means (c .fill .last .kind) (getD (c .fill .last .cells) (last ns * S) d)) ≡ c .count-in .result =
           (let v = c .count-in .ensures in let is = c .index-cells-nodes .is in cc) in
-        subst (λ (v : ℕ). Answered F (c .args .exprs .now) ns (g .K·Kind .places) (length (c .args .cells .now)) (g .K·Kind .means (c .fill .last .kind) (getD (c .fill .last .cells) (last ns * S) d)) 0 v) value
-        (accepted sound (omega (arith, c .places-count .ensures)) (omega arith));
+          subst (λ (v : ℕ). Answered F (c .args .exprs .now) ns (g .K·Kind .places) (length (c .args .cells .now)) (g .K·Kind .means (c .fill .last .kind) (getD (c .fill .last .cells) (last ns * S) d)) 0 v) value
+          (accepted sound (omega (arith, c .places-count .ensures)) (omega arith));
       refused = λ off. absurd (off refl);
       filled = λ _. c .fill .ensures .filled;
       products = λ _. c .fill .ensures .products;
       beyond = λ _. c .fill .ensures .beyond;
-      kept = c .fill .ensures .kept
+      kept = c .fill .ensures .kept;
     }

@@ -27,15 +27,15 @@ returns g c =
     let e : (u p : ℕ) → u < S → M (getD (c .taken-targets .result) u all) p ≡ M (getD (c .args .cells .now) (c .args .c * S + u) all) p = λ u p h. ap (λ y. M y p) (c .taken-targets .ensures u all h) in
     record {
       value = λ s p h.
-        let led = c .sources-from .ensures .value all (c .pre .meeting) s h p in
-        let cell : M (getD (c .write-entry .last .cells) (c .args .n * S + s) all) p ≡ (M (getD (c .sources-from .result) s all) p && M (c .args .chosen) p) =
+          let led = c .sources-from .ensures .value all (c .pre .meeting) s h p in
+          let cell : M (getD (c .write-entry .last .cells) (c .args .n * S + s) all) p ≡ (M (getD (c .sources-from .result) s all) p && M (c .args .chosen) p) =
           sym (c .sources-from .ensures .kept _ p) ∙ c .write-entry .ensures .value s p h
           ∙ each (c .sources-from .ensures .kept _ p) (c .sources-from .ensures .kept _ p ∙ ap (λ y. M y p) (getD-replicate 64 s (c .args .chosen) all (omega arith))) in (
-          λ t. (let b = and-split (M (getD (c .sources-from .result) s all) p) (M (c .args .chosen) p) (subst T cell t) in
-              (b .1, (led .0 (b .0) .0, some-same F (c .args .action) (λ u. M (getD (c .taken-targets .result) u all)) (λ u. M (getD (c .args .cells .now) (c .args .c * S + u) all)) s p (λ u u<. e u p u<) (led .0 (b .0) .1)))),
-          λ x. subst T (sym cell) (and-both (M (getD (c .sources-from .result) s all) p) (M (c .args .chosen) p)
-              (led .1 (x .1 .0, some-same F (c .args .action) (λ u. M (getD (c .args .cells .now) (c .args .c * S + u) all)) (λ u. M (getD (c .taken-targets .result) u all)) s p (λ u u<. sym (e u p u<)) (x .1 .1))) (x .0)),
-        );
+            λ t. (let b = and-split (M (getD (c .sources-from .result) s all) p) (M (c .args .chosen) p) (subst T cell t) in
+                (b .1, (led .0 (b .0) .0, some-same F (c .args .action) (λ u. M (getD (c .taken-targets .result) u all)) (λ u. M (getD (c .args .cells .now) (c .args .c * S + u) all)) s p (λ u u<. e u p u<) (led .0 (b .0) .1)))),
+            λ x. subst T (sym cell) (and-both (M (getD (c .sources-from .result) s all) p) (M (c .args .chosen) p)
+                (led .1 (x .1 .0, some-same F (c .args .action) (λ u. M (getD (c .args .cells .now) (c .args .c * S + u) all)) (λ u. M (getD (c .taken-targets .result) u all)) s p (λ u u<. sym (e u p u<)) (x .1 .1))) (x .0)),
+          );
       others = c .write-entry .ensures .others;
-      kept = λ x p. c .write-entry .ensures .kept x p ∙ c .sources-from .ensures .kept x p
+      kept = λ x p. c .write-entry .ensures .kept x p ∙ c .sources-from .ensures .kept x p;
     }

@@ -22,12 +22,17 @@ use Rattle.checker.proofs.view.FamilyView.fill.Needs as need
 
 pub satisfied-satisfied-requires : need.satisfied-satisfied-requires
 satisfied-satisfied-requires g c κs =
-    let F = family-of (c .args .self .now) in
-    ( omega (arith, g .K·Kind·met .roomy)
-    , ( (omega arith, c .pre .sound .few-expressions)
-      , ( (c .pre .sound .parts-lower, c .pre .sound .features)
-        , subst (λ m. Everyone m F (c .first-all .result)) (one-reading (g .K·Kind .means (c .first-all .last .kind)) (g .K·Kind .means (c .conditions-conditions .last .kind)) (c .conditions-conditions .ensures .kept))
-            (first-places (g .K·Kind .means (c .first-all .last .kind) (c .first-all .result)) (length (c .args .self .now .products .now)) (g .K·Kind .places) (omega arith) (c .first-all .ensures .value)) ) ) )
+    let F = family-of (c .args .self .now) in (
+      omega (arith, g .K·Kind·met .roomy),
+      (
+        (omega arith, c .pre .sound .few-expressions),
+        (
+          (c .pre .sound .parts-lower, c .pre .sound .features),
+          subst (λ m. Everyone m F (c .first-all .result)) (one-reading (g .K·Kind .means (c .first-all .last .kind)) (g .K·Kind .means (c .conditions-conditions .last .kind)) (c .conditions-conditions .ensures .kept))
+              (first-places (g .K·Kind .means (c .first-all .last .kind) (c .first-all .result)) (length (c .args .self .now .products .now)) (g .K·Kind .places) (omega arith) (c .first-all .ensures .value)),
+        ),
+      ),
+    )
 
 pub walk-requires : need.walk-requires
 walk-requires g c κs =
@@ -45,9 +50,9 @@ walk-requires g c κs =
         meeting = subst (λ m. Meeting m F (c .conditions-conditions .result) all) one13 (c .conditions-conditions .ensures .value);
         satisfying = subst (λ m. Satisfying m F (c .args .exprs .now) (c .satisfied-satisfied .result) all (length (c .args .exprs .now))) one23 (c .satisfied-satisfied .ensures .value);
         found = c .fixpoints-fixpoints .ensures;
-        long = (search needs, search needs, search needs)
+        long = (search needs, search needs, search needs);
       };
-      begun = nothing-above (c .args .exprs .now) (c .args .nodes .now) (c .pre .sound) _
+      begun = nothing-above (c .args .exprs .now) (c .args .nodes .now) (c .pre .sound) _;
     }
 
 pub returns : need.returns
@@ -61,13 +66,13 @@ returns g c =
     let M4 = g .K·Kind .means (c .walk .last .kind) in
     let w = c .walk .ensures .walked in
     let cell : (d : g .K·Set .Denot) (n s p : ℕ) → n < length ns → s < S → M4 (getD (c .walk .last .cells) (n * S + s) d) p ≡ M3 (getD (c .walk .last .cells) (n * S + s) all) p =
-      λ d n s p n< s<. (let r = row-fits n (length ns) S (length (c .walk .last .cells)) n< (omega arith) in
-        c .walk .ensures .kept _ p ∙ ap (λ y. M3 y p) (getD-default (c .walk .last .cells) (n * S + s) d all (omega arith))) in
+    λ d n s p n< s<. (let r = row-fits n (length ns) S (length (c .walk .last .cells)) n< (omega arith) in
+    c .walk .ensures .kept _ p ∙ ap (λ y. M3 y p) (getD-default (c .walk .last .cells) (n * S + s) d all (omega arith))) in
     record {
       kept = λ x q. c .walk .ensures .kept x q ∙ c .satisfied-satisfied .ensures .kept x q ∙ c .conditions-conditions .ensures .kept x q ∙ c .first-all .ensures .kept x q;
       beyond = λ i d h. c .walk .ensures .framed .0 i d h;
       products = λ d n n< s p s< t. w .products n (c .pre .sound .whole n n<) s p s< (subst T (cell d n s p n< s<) t);
       filled = λ d. filled-same F es ns (c .pre .sound .tree) (rows M3 S (c .walk .last .cells) all) (rows M4 S (c .walk .last .cells) d) no-pairs no-pairs (last ns) (λ v. same-refl F (no-pairs v))
           (λ m u s p s< p<. same-by _ _ (sym (cell d m s p (omega (arith, under-le ns (c .pre .sound .tree) (last ns) m u, c .pre .sound .some)) s<)))
-          (w .filled no-pairs (nothing-above es ns (c .pre .sound) _))
+          (w .filled no-pairs (nothing-above es ns (c .pre .sound) _));
     }

@@ -18,18 +18,18 @@ loop-p-again g c =
     let M = g .K·Kind .means in
     elim (c .if-met-by .came) [
       | then-met-by w ↦ (
-          λ x q. ap (λ k. M k x q) (w .kind-is) ∙ w .put-set .ensures .kept x q ∙ c .loop-p .inv .0 x q,
-          grown (λ q. M (c .loop-p .kind) (c .loop-p .set) q) (λ q. M (c .if-met-by .kind) (c .if-met-by .set) q) (c .loop-p .p) (g .K·Kind .places)
-              (λ q. Meets (getD (c .args .self .now .products .now) q 0) (c .args .transition .now)) (omega arith)
-              (λ q. ap (λ k. M k (c .if-met-by .set) q) (w .kind-is) ∙ ap (λ s. M (w .put-set .last .self) s q) (w .set-is) ∙ w .put-set .ensures .value q)
-              (c .loop-p .inv .1) (c .met-by .ensures .0 (is-true (w .if-met-by .taken))),
-        )
+        λ x q. ap (λ k. M k x q) (w .kind-is) ∙ w .put-set .ensures .kept x q ∙ c .loop-p .inv .0 x q,
+        grown (λ q. M (c .loop-p .kind) (c .loop-p .set) q) (λ q. M (c .if-met-by .kind) (c .if-met-by .set) q) (c .loop-p .p) (g .K·Kind .places)
+            (λ q. Meets (getD (c .args .self .now .products .now) q 0) (c .args .transition .now)) (omega arith)
+            (λ q. ap (λ k. M k (c .if-met-by .set) q) (w .kind-is) ∙ ap (λ s. M (w .put-set .last .self) s q) (w .set-is) ∙ w .put-set .ensures .value q)
+            (c .loop-p .inv .1) (c .met-by .ensures .0 (is-true (w .if-met-by .taken))),
+      )
       | else-met-by w ↦ (
-          λ x q. ap (λ k. M k x q) (w .kind-is) ∙ c .loop-p .inv .0 x q,
-          same-set (λ q. M (c .loop-p .kind) (c .loop-p .set) q) (λ q. M (c .if-met-by .kind) (c .if-met-by .set) q) (λ q. (q < c .loop-p .p + 1) × Meets (getD (c .args .self .now .products .now) q 0) (c .args .transition .now))
-              (λ q. ap (λ k. M k (c .if-met-by .set) q) (w .kind-is) ∙ ap (λ s. M (c .loop-p .kind) s q) (w .set-is))
-              (not-grown (λ q. M (c .loop-p .kind) (c .loop-p .set) q) (c .loop-p .p) (λ q. Meets (getD (c .args .self .now .products .now) q 0) (c .args .transition .now)) (c .loop-p .inv .1) (λ x. both-ways _ (w .if-met-by .left) (from-true (c .met-by .ensures .1 x)))),
-        )
+        λ x q. ap (λ k. M k x q) (w .kind-is) ∙ c .loop-p .inv .0 x q,
+        same-set (λ q. M (c .loop-p .kind) (c .loop-p .set) q) (λ q. M (c .if-met-by .kind) (c .if-met-by .set) q) (λ q. (q < c .loop-p .p + 1) × Meets (getD (c .args .self .now .products .now) q 0) (c .args .transition .now))
+            (λ q. ap (λ k. M k (c .if-met-by .set) q) (w .kind-is) ∙ ap (λ s. M (c .loop-p .kind) s q) (w .set-is))
+            (not-grown (λ q. M (c .loop-p .kind) (c .loop-p .set) q) (c .loop-p .p) (λ q. Meets (getD (c .args .self .now .products .now) q 0) (c .args .transition .now)) (c .loop-p .inv .1) (λ x. both-ways _ (w .if-met-by .left) (from-true (c .met-by .ensures .1 x)))),
+      )
     ]
 
 pub returns : need.returns
@@ -41,5 +41,5 @@ returns g c =
           (λ q. sym (kept (c .loop-p .set) q))
           (let e : c .loop-p .p ≡ length (c .args .self .now .products .now) = omega arith in
           subst (λ (n : ℕ). (q : ℕ) → T (M (c .loop-p .kind) (c .loop-p .set) q) ↔ ((q < n) × Meets (getD (c .args .self .now .products .now) q 0) (c .args .transition .now))) e (c .loop-p .inv .1));
-      kept = kept
+      kept = kept;
     }

@@ -21,7 +21,7 @@ satisfying-requires g c κs =
       fits = (omega arith, omega arith, omega arith, c .loop-n .inv .1);
       lower = c .pre .lower;
       everyone = subst (λ m. Everyone m F (c .args .all)) one (c .pre .everyone);
-      parts = subst (λ m. Satisfying m F (c .args .exprs .now) (c .loop-n .sets) (c .args .all) (c .loop-n .n)) one (c .loop-n .inv .2)
+      parts = subst (λ m. Satisfying m F (c .args .exprs .now) (c .loop-n .sets) (c .args .all) (c .loop-n .n)) one (c .loop-n .inv .2);
     }
 
 pub loop-n-again : need.loop-n-again
@@ -40,5 +40,5 @@ returns g c =
     let e : c .loop-n .n ≡ length (c .args .exprs .now) = omega arith in
     record {
       value = subst (λ (k : ℕ). Satisfying (g .K·Kind .means (c .args .kind .now)) (family-of (c .args .self .now)) (c .args .exprs .now) (c .loop-n .sets) (c .args .all) k) e (c .loop-n .inv .2);
-      kept = c .loop-n .inv .0
+      kept = c .loop-n .inv .0;
     }

@@ -77,7 +77,7 @@ returns-in-False g c =
     record {
       value = expressed M F (c .args .exprs .now) (c .pre .lower) (c .none .result) (c .args .n) ex.False (c .in-False .is)
           (collects-none M F (c .none .result) (λ _. ⊥) (λ p. sym (c .none .ensures .kept (c .none .result) p) ∙ c .none .ensures .value p) (λ p x. x));
-      kept = c .none .ensures .kept
+      kept = c .none .ensures .kept;
     }
 
 pub returns-in-True : need.returns-in-True
@@ -88,7 +88,7 @@ returns-in-True g c =
     record {
       value = expressed M F (c .args .exprs .now) (c .pre .lower) (c .args .all) (c .args .n) ex.True (c .in-True .is)
           (collects-all M F (c .args .all) (λ _. Unit {0}) (c .pre .everyone) (λ p. tt));
-      kept = λ s p. refl
+      kept = λ s p. refl;
     }
 
 pub returns-in-Feature : need.returns-in-Feature
@@ -99,7 +99,7 @@ returns-in-Feature g c =
     record {
       value = expressed M F (c .args .exprs .now) (c .pre .lower) (c .featuring .result) (c .args .n) (ex.Feature (c .in-Feature .k)) (c .in-Feature .is)
           (c .featuring .ensures .value);
-      kept = c .featuring .ensures .kept
+      kept = c .featuring .ensures .kept;
     }
 
 pub returns-in-Not : need.returns-in-Not
@@ -113,7 +113,7 @@ returns-in-Not g c =
           (λ p. sym (c .without .ensures .kept (c .without .result) p) ∙ c .without .ensures .value p) (let h : c .in-Not .c < c .args .n = c .pre .lower .0 (c .args .n) (c .in-Not .c) (subst (λ (y : Expr). Part-of (c .in-Not .c) y) (sym (c .in-Not .is)) (refl)) in
           subst (λ y. Collects M F y (λ p. T (sat (c .in-Not .c) p))) (sym (getD-read (c .args .sets .now) (c .in-Not .c) (c .index-sets-c .result) (omega arith) (c .index-sets-c .is) (c .args .all)))
           (c .pre .parts (c .in-Not .c) h)));
-      kept = c .without .ensures .kept
+      kept = c .without .ensures .kept;
     }
 
 pub returns-in-Or : need.returns-in-Or
@@ -129,7 +129,7 @@ returns-in-Or g c =
           (c .pre .parts (c .in-Or .c) h)) (let h : c .in-Or .d < c .args .n = c .pre .lower .0 (c .args .n) (c .in-Or .d) (subst (λ (y : Expr). Part-of (c .in-Or .d) y) (sym (c .in-Or .is)) (inr refl)) in
           subst (λ y. Collects M F y (λ p. T (sat (c .in-Or .d) p))) (sym (getD-read (c .args .sets .now) (c .in-Or .d) (c .index-sets-d .result) (omega arith) (c .index-sets-d .is) (c .args .all)))
           (c .pre .parts (c .in-Or .d) h)));
-      kept = c .join .ensures .kept
+      kept = c .join .ensures .kept;
     }
 
 pub returns-in-And : need.returns-in-And
@@ -145,5 +145,5 @@ returns-in-And g c =
           (c .pre .parts (c .in-And .c) h)) (let h : c .in-And .d < c .args .n = c .pre .lower .0 (c .args .n) (c .in-And .d) (subst (λ (y : Expr). Part-of (c .in-And .d) y) (sym (c .in-And .is)) (inr refl)) in
           subst (λ y. Collects M F y (λ p. T (sat (c .in-And .d) p))) (sym (getD-read (c .args .sets .now) (c .in-And .d) (c .index-sets-d-in-And .result) (omega arith) (c .index-sets-d-in-And .is) (c .args .all)))
           (c .pre .parts (c .in-And .d) h)));
-      kept = c .meet .ensures .kept
+      kept = c .meet .ensures .kept;
     }

@@ -76,22 +76,23 @@ loop-i-again g c =
           let tgt : (d : g .K·Set .Denot) → w .index-targets-transition .result ≡ getD (c .args .targets .now) (t .target) d = getD-read (c .args .targets .now) (t .target) (w .index-targets-transition .result) (omega arith) (w .index-targets-transition .is) in
           let old : (d : g .K·Set .Denot) → w .index-from-source .result ≡ getD (c .loop-i .from) (t .source) d = getD-read (c .loop-i .from) (t .source) (w .index-from-source .result) (omega arith) (w .index-from-source .is) in
           let mv : (d : g .K·Set .Denot) (p : ℕ) → g .K·Kind .means (w .meet-led .last .self) (w .meet-led .result) p ≡ (g .K·Kind .means (c .loop-i .kind) (getD (c .args .gathered .now .conditions .now) i d) p && g .K·Kind .means (c .loop-i .kind) (getD (c .args .targets .now) (t .target) d) p) =
-            λ d p. (let a = cond d in let z = tgt d in let v = w .meet-led .ensures .value p in let x = w .index-gathered-i .is in let y = w .index-targets-transition .is in cc) in
+          λ d p. (let a = cond d in let z = tgt d in let v = w .meet-led .ensures .value p in let x = w .index-gathered-i .is in let y = w .index-targets-transition .is in cc) in
           let jv : (d : g .K·Set .Denot) (p : ℕ) → g .K·Kind .means (w .join .last .self) (w .join .result) p ≡ (g .K·Kind .means (w .meet-led .last .self) (getD (c .loop-i .from) (t .source) d) p || g .K·Kind .means (w .meet-led .last .self) (w .meet-led .result) p) =
-            λ d p. (let a = old d in let v = w .join .ensures .value p in let x = w .index-from-source .is in cc) in
-          ( λ x q. ap (λ k. g .K·Kind .means k x q) (w .kind-is) ∙ k2 x q
-          , ap length (w .from-is) ∙ length-set (c .loop-i .from) (t .source) (w .join .result) ∙ c .loop-i .inv .1
-          , λ d meet. subst (λ from. Gathered-to M F (c .args .targets .now) d (c .args .action) from (i + 1)) (sym (w .from-is))
-              (same-action M F (c .args .targets .now) d (c .args .action) i nowhere in-range (c .loop-i .from) (w .join .result) (getD (c .args .gathered .now .conditions .now) i d)
-              (w .if-transition-action .taken) (b .1) (omega arith) (meet i nowhere in-range)
-              (λ p. sym (k2 (w .join .result) p) ∙ jv d p ∙ both (k1 (getD (c .loop-i .from) (t .source) d) p) (mv d p ∙ each (c .loop-i .inv .0 (getD (c .args .gathered .now .conditions .now) i d) p) (c .loop-i .inv .0 (getD (c .args .targets .now) (t .target) d) p)))
-              (c .loop-i .inv .2 d meet)) ))
+          λ d p. (let a = old d in let v = w .join .ensures .value p in let x = w .index-from-source .is in cc) in (
+            λ x q. ap (λ k. g .K·Kind .means k x q) (w .kind-is) ∙ k2 x q,
+            ap length (w .from-is) ∙ length-set (c .loop-i .from) (t .source) (w .join .result) ∙ c .loop-i .inv .1,
+            λ d meet. subst (λ from. Gathered-to M F (c .args .targets .now) d (c .args .action) from (i + 1)) (sym (w .from-is))
+                (same-action M F (c .args .targets .now) d (c .args .action) i nowhere in-range (c .loop-i .from) (w .join .result) (getD (c .args .gathered .now .conditions .now) i d)
+                (w .if-transition-action .taken) (b .1) (omega arith) (meet i nowhere in-range)
+                (λ p. sym (k2 (w .join .result) p) ∙ jv d p ∙ both (k1 (getD (c .loop-i .from) (t .source) d) p) (mv d p ∙ each (c .loop-i .inv .0 (getD (c .args .gathered .now .conditions .now) i d) p) (c .loop-i .inv .0 (getD (c .args .targets .now) (t .target) d) p)))
+                (c .loop-i .inv .2 d meet)),
+          ))
       | else-transition-action w ↦ (
-          λ x q. ap (λ k. g .K·Kind .means k x q) (w .kind-is) ∙ c .loop-i .inv .0 x q,
-          ap length (w .from-is) ∙ c .loop-i .inv .1,
-          λ d meet. subst (λ from. Gathered-to M F (c .args .targets .now) d (c .args .action) from (i + 1)) (sym (w .from-is))
-              (other-action M F (c .args .targets .now) d (c .args .action) i nowhere in-range (c .loop-i .from) (w .if-transition-action .left) (c .loop-i .inv .2 d meet)),
-        )
+        λ x q. ap (λ k. g .K·Kind .means k x q) (w .kind-is) ∙ c .loop-i .inv .0 x q,
+        ap length (w .from-is) ∙ c .loop-i .inv .1,
+        λ d meet. subst (λ from. Gathered-to M F (c .args .targets .now) d (c .args .action) from (i + 1)) (sym (w .from-is))
+            (other-action M F (c .args .targets .now) d (c .args .action) i nowhere in-range (c .loop-i .from) (w .if-transition-action .left) (c .loop-i .inv .2 d meet)),
+      )
     ]
 
 pub returns : need.returns
@@ -104,5 +105,5 @@ returns g c =
       value = subst (λ m. (d : g .K·Set .Denot) → Meeting m F (c .args .gathered .now .conditions .now) d → (s : ℕ) → s < c .args .self .now .states
           → Collects m F (getD (c .loop-i .from) s d) (Some-leads F (c .args .action) (λ u. m (getD (c .args .targets .now) u d)) s)) (sym one)
           (λ d meet. all-reached M F (c .args .targets .now) d (c .args .action) (c .loop-i .from) (c .loop-i .i) e (c .loop-i .inv .2 d meet));
-      kept = λ x q. c .loop-i .inv .0 x q ∙ c .none-from .ensures .kept x q
+      kept = λ x q. c .loop-i .inv .0 x q ∙ c .none-from .ensures .kept x q;
     }

@@ -10,4 +10,4 @@ Inv-loop-i g l =
     ((x : g .K·Set .Denot) (q : ℕ) → g .K·Kind .means (l .kind) x q ≡ g .K·Kind .means (l .entry .kind) x q)
     × (length (l .from) ≡ 64)
     × ((d : g .K·Set .Denot) → Meeting (g .K·Kind .means (l .entry .kind)) (family-of (l .self)) (l .gathered .conditions .now) d
-        → Gathered-to (g .K·Kind .means (l .entry .kind)) (family-of (l .self)) (l .targets) d (l .action) (l .from) (l .i))
+    → Gathered-to (g .K·Kind .means (l .entry .kind)) (family-of (l .self)) (l .targets) d (l .action) (l .from) (l .i))

@@ -16,11 +16,11 @@ returns g c =
     let part : length (take (a + S - a) (drop a (c .args .cells .now))) ≡ S = simp (length-take, length-drop) (omega arith) in
     let long : length (c .write-row .last .row) ≡ S = omega arith in
     let room : a ≤ length (c .args .cells .now) = omega arith in
-    record
-    { value = λ s p l.
-        let w = c .write-row .ensures .value s (c .args .all) p (omega arith) in
-        let e = put-at a (a + S - a) (c .args .cells .now) (c .write-row .last .row) s (c .args .all) room (omega arith) in
-        cc
-    ; others = (λ i x l. put-below a _ (c .args .cells .now) (c .write-row .last .row) i x room l, λ i x l. put-above a _ (c .args .cells .now) (c .write-row .last .row) i x room (omega arith) (omega arith))
-    ; kept = c .write-row .ensures .kept
+    record {
+      value = λ s p l.
+          let w = c .write-row .ensures .value s (c .args .all) p (omega arith) in
+          let e = put-at a (a + S - a) (c .args .cells .now) (c .write-row .last .row) s (c .args .all) room (omega arith) in
+          cc;
+      others = (λ i x l. put-below a _ (c .args .cells .now) (c .write-row .last .row) i x room l, λ i x l. put-above a _ (c .args .cells .now) (c .write-row .last .row) i x room (omega arith) (omega arith));
+      kept = c .write-row .ensures .kept;
     }
