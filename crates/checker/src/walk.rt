@@ -1,5 +1,6 @@
 // The walk through a formula table, which writes the row of each entry from the rows of its parts.
 ghost use mathlib.Core.Path.{_≡_};
+ghost use mathlib.Core.Bool.{_||_, _&&_};
 ghost use mathlib.Core.Logic.{_↔_};
 ghost use Prim.Native.Nat.{ℕ, _+_, _*_, _<_, _≤_};
 ghost use lib.Dec.{T};
@@ -19,6 +20,15 @@ use crate::view::FamilyView;
 use formulas::Expr;
 use formulas::Node;
 use product_sets::Kind;
+
+// A set, and the products that meet a condition and are in the set at the target.
+fn with_led<K: Kind>(kind: &mut K, set: K::Set, condition: K::Set, target: K::Set) -> K::Set
+    ensures value { λ r. ⌜ ((p : ℕ) → means (now (kind .entry)) r p ≡ (means (now (kind .entry)) set p || (means (now (kind .entry)) condition p && means (now (kind .entry)) target p))) ⌝ }
+    ensures kept { λ _. ⌜ ((s : K·Set) (p : ℕ) → means (now (kind .exit)) s p ≡ means (now (kind .entry)) s p) ⌝ }
+{
+    let led = kind.meet(condition, target);
+    kind.join(set, led)
+}
 
 impl FamilyView<'_> {
     // Writes the row of entry n from two others.
@@ -86,9 +96,9 @@ impl FamilyView<'_> {
         for i in 0..self.transitions.len() {
             let transition = self.transitions[i];
             if transition.action == action {
-                let led = kind.meet(gathered.conditions[i], targets[transition.target as usize]);
+                let target = targets[transition.target as usize];
                 let source = transition.source as usize;
-                from[source] = kind.join(from[source], led);
+                from[source] = with_led(kind, from[source], gathered.conditions[i], target);
             }
         }
         from

@@ -70,21 +70,21 @@ loop-i-again g c =
     elim (c .if-transition-action .came) [
       | then-transition-action w ↦ (
           let b = within-at (c .args .self .now .states) (F .transitions) i nowhere (c .args .self .now .within) in-range in
-          let k1 : (x : g .K·Set .Denot) (q : ℕ) → g .K·Kind .means (w .meet-led .last .self) x q ≡ M x q = λ x q. w .meet-led .ensures .kept x q ∙ c .loop-i .inv .0 x q in
-          let k2 : (x : g .K·Set .Denot) (q : ℕ) → g .K·Kind .means (w .join .last .self) x q ≡ M x q = λ x q. w .join .ensures .kept x q ∙ k1 x q in
+          let kept : (x : g .K·Set .Denot) (q : ℕ) → g .K·Kind .means (w .with-led .last .kind) x q ≡ M x q = λ x q. w .with-led .ensures .kept x q ∙ c .loop-i .inv .0 x q in
           let cond : (d : g .K·Set .Denot) → w .index-gathered-i .result ≡ getD (c .args .gathered .now .conditions .now) i d = getD-read (c .args .gathered .now .conditions .now) i (w .index-gathered-i .result) (omega arith) (w .index-gathered-i .is) in
           let tgt : (d : g .K·Set .Denot) → w .index-targets-transition .result ≡ getD (c .args .targets .now) (t .target) d = getD-read (c .args .targets .now) (t .target) (w .index-targets-transition .result) (omega arith) (w .index-targets-transition .is) in
           let old : (d : g .K·Set .Denot) → w .index-from-source .result ≡ getD (c .loop-i .from) (t .source) d = getD-read (c .loop-i .from) (t .source) (w .index-from-source .result) (omega arith) (w .index-from-source .is) in
-          let mv : (d : g .K·Set .Denot) (p : ℕ) → g .K·Kind .means (w .meet-led .last .self) (w .meet-led .result) p ≡ (g .K·Kind .means (c .loop-i .kind) (getD (c .args .gathered .now .conditions .now) i d) p && g .K·Kind .means (c .loop-i .kind) (getD (c .args .targets .now) (t .target) d) p) =
-          λ d p. (let a = cond d in let z = tgt d in let v = w .meet-led .ensures .value p in let x = w .index-gathered-i .is in let y = w .index-targets-transition .is in cc) in
-          let jv : (d : g .K·Set .Denot) (p : ℕ) → g .K·Kind .means (w .join .last .self) (w .join .result) p ≡ (g .K·Kind .means (w .meet-led .last .self) (getD (c .loop-i .from) (t .source) d) p || g .K·Kind .means (w .meet-led .last .self) (w .meet-led .result) p) =
-          λ d p. (let a = old d in let v = w .join .ensures .value p in let x = w .index-from-source .is in cc) in (
-            λ x q. ap (λ k. g .K·Kind .means k x q) (w .kind-is) ∙ k2 x q,
-            ap length (w .from-is) ∙ length-set (c .loop-i .from) (t .source) (w .join .result) ∙ c .loop-i .inv .1,
+          let led : (d : g .K·Set .Denot) (p : ℕ) → g .K·Kind .means (c .loop-i .kind) (w .with-led .result) p
+          ≡ (g .K·Kind .means (c .loop-i .kind) (getD (c .loop-i .from) (t .source) d) p
+          || (g .K·Kind .means (c .loop-i .kind) (getD (c .args .gathered .now .conditions .now) i d) p && g .K·Kind .means (c .loop-i .kind) (getD (c .args .targets .now) (t .target) d) p)) =
+          λ d p. (let a = cond d in let z = tgt d in let o = old d in let v = w .with-led .ensures .value p in
+          let x = w .index-gathered-i .is in let y = w .index-targets-transition .is in let u = w .index-from-source .is in cc) in (
+            λ x q. ap (λ k. g .K·Kind .means k x q) (w .kind-is) ∙ kept x q,
+            ap length (w .from-is) ∙ length-set (c .loop-i .from) (t .source) (w .with-led .result) ∙ c .loop-i .inv .1,
             λ d meet. subst (λ from. Gathered-to M F (c .args .targets .now) d (c .args .action) from (i + 1)) (sym (w .from-is))
-                (same-action M F (c .args .targets .now) d (c .args .action) i nowhere in-range (c .loop-i .from) (w .join .result) (getD (c .args .gathered .now .conditions .now) i d)
+                (same-action M F (c .args .targets .now) d (c .args .action) i nowhere in-range (c .loop-i .from) (w .with-led .result) (getD (c .args .gathered .now .conditions .now) i d)
                 (w .if-transition-action .taken) (b .1) (omega arith) (meet i nowhere in-range)
-                (λ p. sym (k2 (w .join .result) p) ∙ jv d p ∙ both (k1 (getD (c .loop-i .from) (t .source) d) p) (mv d p ∙ each (c .loop-i .inv .0 (getD (c .args .gathered .now .conditions .now) i d) p) (c .loop-i .inv .0 (getD (c .args .targets .now) (t .target) d) p)))
+                (λ p. sym (c .loop-i .inv .0 (w .with-led .result) p) ∙ led d p ∙ both (c .loop-i .inv .0 (getD (c .loop-i .from) (t .source) d) p) (each (c .loop-i .inv .0 (getD (c .args .gathered .now .conditions .now) i d) p) (c .loop-i .inv .0 (getD (c .args .targets .now) (t .target) d) p)))
                 (c .loop-i .inv .2 d meet)),
           ))
       | else-transition-action w ↦ (
