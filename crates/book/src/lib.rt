@@ -1,4 +1,6 @@
 // The book of a family: its states, products and transitions, open for changes or closed for questions.
+#![tactic(auto)]
+
 pub mod books;
 pub mod calls;
 pub mod check;

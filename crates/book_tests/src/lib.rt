@@ -1,4 +1,6 @@
 // Examples of the calls on a book: its limits on both sides, every refusal with its value, and own transitions.
+#![tactic(auto)]
+
 #[cfg(test)]
 mod tests {
     use book::books::OpenBook;

@@ -1,4 +1,6 @@
 // Worked cases: what is answered to formula texts over a family of four products, from the bytes of its file on.
+#![tactic(auto)]
+
 ghost use Rattle.cases.specs.Cases.{FilesHold, CasesHold};
 
 // Six texts give their digits, one of them over two families, and three are refused with their number and value: in

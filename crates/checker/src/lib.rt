@@ -1,4 +1,6 @@
 // Checking of a formula against every product of a family at once, with sets of products of any kind.
+#![tactic(auto)]
+
 mod check;
 mod gather;
 mod rows;

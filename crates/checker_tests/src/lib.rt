@@ -1,4 +1,6 @@
 // Checks of small families, whose answers are known.
+#![tactic(auto)]
+
 #[cfg(test)]
 mod tests {
     use checker::FamilyView;

@@ -1,4 +1,6 @@
 // A family of products: configurations, transitions with a condition, and which transitions are a product's own.
+#![tactic(auto)]
+
 ghost use Rattle.std.specs.Prelude.{T, ◌↔◌};
 ghost use Rattle.families.specs.Families.{Meets};
 

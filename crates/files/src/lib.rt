@@ -1,4 +1,6 @@
 // Files that a program may find missing.
+#![tactic(auto)]
+
 use std::fs;
 use std::io::ErrorKind;
 

@@ -1,4 +1,6 @@
 // Examples of judging tables: for each rule the smallest table that breaks it, and tables that break two.
+#![tactic(auto)]
+
 #[cfg(test)]
 mod tests {
     use formulas::judge::judge;

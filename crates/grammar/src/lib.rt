@@ -1,4 +1,6 @@
 // The grammar of formulas, and what is true of it.
+#![tactic(auto)]
+
 ghost use Rattle.grammar.specs.Viable.{Decided, Unambiguous, OneOffence};
 
 // Each list of tokens is a formula with one tree, or has one place where it offends.

@@ -1,4 +1,6 @@
 // Whole histories on the four-product family: which transitions are left, and whose columns are the same.
+#![tactic(auto)]
+
 #[cfg(test)]
 mod tests {
     use families::Transition;

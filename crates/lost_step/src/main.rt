@@ -1,6 +1,8 @@
 // The maker's question, from beginning to end: do the answers on a family depend on the order of its transitions?
 // The four-product family is checked twice against the rule that no cut follows the rennet directly, once with its
 // transitions as given and once sorted, with two kinds of product set; then without its third transition.
+#![tactic(auto)]
+
 use families::Transition;
 use formulas::{Expr, Node};
 use histories::calls::{Call, History};

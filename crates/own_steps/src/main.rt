@@ -1,4 +1,6 @@
 // Prints which transitions each product of a family really has.
+#![tactic(auto)]
+
 use book::books::{ClosedBook, OpenBook};
 use files::bytes_or_none;
 

@@ -1,4 +1,6 @@
 // Sets of products in several kinds, behind one trait that says what each function means.
+#![tactic(auto)]
+
 mod kind;
 mod mask;
 mod range;

@@ -1,4 +1,6 @@
 // The kinds of product set against plain lists of truth values.
+#![tactic(auto)]
+
 #[cfg(test)]
 mod tests {
     use product_sets::{Kind, Mask, Range, Single, first};

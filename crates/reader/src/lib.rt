@@ -1,4 +1,6 @@
 // Reads a formula text into an expression table and a formula table.
+#![tactic(auto)]
+
 ghost use Rattle.std.specs.Prelude.{◌≡◌, ℕ, ◌+◌, ◌<◌, ◌≤◌, List, [], ◌∷◌, length, replicate};
 ghost use Rattle.grammar.specs.Grammar.{Tok, formula as at_formula, expression as at_expression, Modality, closing, UnitOf, AndPartOf, PhraseOf};
 ghost use Rattle.grammar.specs.Machine.{Inner, sign_of, unit as a_unit, and_tail, or_tail, Any, NotNext, Stops};

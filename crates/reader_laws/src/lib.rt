@@ -1,4 +1,6 @@
 // What is true of every table that the reader gives.
+#![tactic(auto)]
+
 ghost use Rattle.reader_laws.specs.Results.{TablesHold, RulesKept, OneAnswer};
 
 // An accepted text's tables stand for its formula, keep the form of formula tables, and keep the rules by which tables

@@ -1,4 +1,6 @@
 // Tests of the reader on examples.
+#![tactic(auto)]
+
 #[cfg(test)]
 mod tests {
     use formulas::{Expr, Node};

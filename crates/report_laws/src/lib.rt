@@ -1,4 +1,6 @@
 // What is true of every answer.
+#![tactic(auto)]
+
 ghost use Rattle.report_laws.specs.Laws.{OneOutcome, OneLine, OneTranscript, FewRefusals, SameDigit};
 
 // What is promised of an answer leaves one answer to each text, line and input.

@@ -1,4 +1,6 @@
 // Checks formulas, one a line, against the family in the working folder: a digit for each product.
+#![tactic(auto)]
+
 use files::bytes_or_none;
 use report::session::{Opening, Session};
 use report::transcript::Transcript;

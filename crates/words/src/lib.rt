@@ -1,4 +1,6 @@
 // Word lists: the names of the actions, or of the features, each ended by byte 10. Name k of a list has number k.
+#![tactic(auto)]
+
 ghost use Rattle.std.specs.Prelude.{◌≡◌, ℕ, ◌+◌, ◌<◌, ◌≤◌, T, ◌↔◌, List, length, drop, slice_index};
 ghost use Rattle.std.specs.List.{prefix_len};
 ghost use Rattle.words.specs.Words.{inside, Lines, WordList, InForm, number, LookedUp};
