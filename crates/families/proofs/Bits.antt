@@ -1,7 +1,7 @@
 -- Binary digits by division, and the masks and shifts that a program tests with.
-use Rattle.std.proofs.Common.{◌≡◌, ℕ, zero, suc, ◌+◌, ◌*◌, ◌/◌, ◌%◌, ◌^◌, ◌<◌, ◌≤◌, Bool, true, false, ◌&&◌, T, eqb, ◌↔◌, sym, refl, ap, ◌∙◌, subst, ap₂, mod-lt, pow-suc, div-one, one-add, arith, lit<, shr-shr}
+use Rattle.std.proofs.Common.{◌≡◌, ℕ, zero, suc, ◌/◌, ◌%◌, ◌^◌, ◌<◌, Bool, ◌&&◌, T, eqb, ◌↔◌, sym, refl, ap, ◌∙◌, subst, mod-lt, pow-suc, div-one, one-add, arith, lit<, shr-shr}
 use native.Mathlib.Nat.{zero-div}
-use lib.Bits.{bit_and, and_shr, and_mod, and_mask, and_le_l, and_lt}
+use lib.Bits.{bit_and, and_shr, and_mod, and_mask, and_lt}
 use Rattle.families.specs.Bits.{bit}
 use Rattle.families.proofs.Tests.{and_split, and_both}
 

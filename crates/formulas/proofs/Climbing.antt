@@ -1,5 +1,5 @@
 -- Going up a table from an entry to the nearest fixpoint of a variable.
-use Rattle.std.proofs.Common.{◌≡◌, ℕ, zero, suc, ◌+◌, ◌<◌, ◌≤◌, Bool, true, false, cond, not, T, ◌⊎◌, ◌↔◌, List, length, get_or, Some, None, Option, sym, refl, ap, ◌∙◌, subst, inl, inr, arith}
+use Rattle.std.proofs.Common.{◌≡◌, ℕ, ◌<◌, Bool, true, false, cond, not, T, ◌↔◌, List, get_or, Some, None, Option, sym, refl, ap, ◌∙◌, subst}
 use Rattle.formulas.specs.Trees.{Parity, Even, Odd, other}
 use Rattle.formulas.specs.Tables.{Names, Under, itself, further, Binds, Way, there, down, Tree, turned}
 use Rattle.formulas.specs.Judge.{Above, Climb, top, found, higher, flips, after_not, Unbound, OddBound}

@@ -1,11 +1,10 @@
 -- The rules of single entries against sound tables: tables keep the rules exactly if they are sound.
-use Rattle.std.proofs.Common.{◌≡◌, ℕ, zero, suc, ◌+◌, ◌-◌, ◌<◌, ◌≤◌, ◌⊎◌, List, length, get_or, None, sym, refl, ap, ◌∙◌, subst, inl, inr, arith}
+use Rattle.std.proofs.Common.{◌≡◌, ℕ, zero, suc, ◌+◌, ◌<◌, ◌≤◌, List, length, get_or, None, sym, refl, ◌∙◌, subst, inl, inr, arith}
 use Rattle.std.proofs.lemmas.List.{get_or_past}
-use Rattle.std.proofs.lemmas.Bool.{cases_lt, cases_eq}
-use Rattle.formulas.specs.Trees.{Parity, Odd}
-use Rattle.formulas.specs.Tables.{PartOf, Names, Under, itself, further, Apart, Tree, Binds, Way, Bound, Balanced, last}
+use Rattle.std.proofs.lemmas.Bool.{cases_lt}
+use Rattle.formulas.specs.Tables.{PartOf, Names, Under, itself, further, Tree, Binds, Bound, last}
 use Rattle.formulas.specs.Sound.{Carries, Sound}
-use Rattle.formulas.specs.Judge.{ExprFitsAt, NodeFitsAt, Keeps, Kept, Few, Rebinds, Unbound, OddBound, times, naming, top}
+use Rattle.formulas.specs.Judge.{ExprFitsAt, NodeFitsAt, Kept, Few, times, naming, top}
 use Rattle.formulas.specs.declared.Expr.{Expr}
 use Rattle.formulas.specs.declared.Expr.TheVariants as ex
 use Rattle.formulas.specs.declared.Node.{Node}

@@ -1,6 +1,6 @@
 -- The rules by which a pair of tables is judged, and the judgement: the first broken rule, at its first offending entry.
-use Rattle.std.specs.Prelude.{◌≡◌, ℕ, suc, ◌+◌, ◌<◌, ◌≤◌, Bool, true, false, cond, not, List, [], ◌∷◌, length, Some, None, Option, ◌==◌, slice_index_or}
-use Rattle.formulas.specs.Trees.{Parity, Even, Odd}
+use Rattle.std.specs.Prelude.{◌≡◌, ℕ, ◌+◌, ◌<◌, ◌≤◌, Bool, false, cond, not, List, [], ◌∷◌, length, Some, None, Option, ◌==◌, slice_index_or}
+use Rattle.formulas.specs.Trees.{Odd}
 use Rattle.formulas.specs.Tables.{Names, Under, Binds, Way, Tree}
 use Rattle.formulas.specs.declared.Expr.{Expr}
 use Rattle.formulas.specs.declared.Expr.TheVariants as ex

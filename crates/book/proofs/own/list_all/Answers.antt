@@ -13,9 +13,9 @@ loop-t-init c = subst (λ (l : List OwnTransition). Listed c.args.configuration 
 
 pub loop-t-preserved : goal.loop-t-preserved
 loop-t-preserved c =
-    subst (λ (l : List Transition). Listed c.args.configuration l (vec_items c.list-one.new.list))
+    subst (λ (l : List Transition). Listed c.args.configuration l (vec_items c.list_one.new.list))
     (sym (take_more c.args.transitions.now c.loop-t.t-index blank (omega arith)))
-    (more c.loop-t.invariant c.in-ok-list-one.ensures)
+    (more c.loop-t.invariant c.in_ok-list_one.ensures)
 
 pub returns : goal.returns
 returns c =

@@ -7,7 +7,7 @@ use Rattle.std.proofs.lemmas.Bool.{cases_lt}
 use Rattle.std.proofs.lemmas.List.{get_or_past}
 use Rattle.checker.specs.Gathered.{entry}
 use Rattle.checker.proofs.Collecting.{FoundTo, zeros, found_more, found_same, no_fixpoint}
-use Rattle.checker.proofs.gather.fixpoints.Goals.{in-default, in-Least2}
+use Rattle.checker.proofs.gather.fixpoints.Goals.{in_default, in-Least2}
 use Rattle.checker.proofs.gather.fixpoints.Goals as goal
 
 pub loop-n-init : goal.loop-n-init
@@ -16,8 +16,8 @@ loop-n-init c = (refl, λ m v h b. absurd (omega arith), λ v. subst (λ (z : �
 pub loop-n-preserved : goal.loop-n-preserved
 loop-n-preserved c =
     elim c.match-nodes-n.branch [
-      | in-default w ↦ subst (λ xs. FoundTo c.args.nodes.now xs (c.loop-n.n + 1)) (sym w.found-is)
-          (found_same c.args.nodes.now c.requires.sound.single c.loop-n.found c.loop-n.n (no_fixpoint _ w.in-default.not-Least w.in-default.not-Greatest) c.loop-n.invariant)
+      | in_default w ↦ subst (λ xs. FoundTo c.args.nodes.now xs (c.loop-n.n + 1)) (sym w.found-is)
+          (found_same c.args.nodes.now c.requires.sound.single c.loop-n.found c.loop-n.n (no_fixpoint _ w.in_default.not-Least w.in_default.not-Greatest) c.loop-n.invariant)
       | in-Least2 w ↦ (
           let more : Binds w.in-Least.v (entry c.args.nodes.now c.loop-n.n) → w.in-Least.v ≤ 25 → FoundTo c.args.nodes.now c.match-nodes-n.found (c.loop-n.n + 1) =
           λ b h. subst (λ xs. FoundTo c.args.nodes.now xs (c.loop-n.n + 1)) (sym w.found-is)

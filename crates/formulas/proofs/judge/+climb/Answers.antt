@@ -1,4 +1,4 @@
-use Rattle.std.proofs.Common.{◌≡◌, Bool, get_or, Option, sym, subst}
+use Rattle.std.proofs.Common.{Bool, Option, sym, subst}
 use Rattle.formulas.specs.Judge.{Climb, top, found, higher}
 use Rattle.formulas.proofs.judge.+climb.Goals as goal
 
@@ -12,5 +12,5 @@ returns-then-binds t c =
 pub returns-else-binds : goal.returns-else-binds
 returns-else-binds t c =
     let e = c.in-Some.ensures in
-    subst (λ (r : Option Bool). Climb c.args.nodes.now c.args.v c.args.m r) (sym c.past-not.ensures)
+    subst (λ (r : Option Bool). Climb c.args.nodes.now c.args.v c.args.m r) (sym c.past_not.ensures)
     (higher c.in-Some.p e.0 e.2 (λ b. c.if-binds.ensures.1 b) c.climb.ensures)

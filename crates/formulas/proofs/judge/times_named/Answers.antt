@@ -1,4 +1,4 @@
-use Rattle.std.proofs.Common.{◌≡◌, sym, ap, ◌∙◌, arith}
+use Rattle.std.proofs.Common.{ap, ◌∙◌, arith}
 use Rattle.std.proofs.lemmas.List.{take_all}
 use Rattle.formulas.specs.Judge.{naming}
 use Rattle.formulas.proofs.Naming.{naming_more}
@@ -8,7 +8,7 @@ pub loop-node-preserved : goal.loop-node-preserved
 loop-node-preserved c =
     let e = naming_more c.args.nodes.now c.loop-node.node-index c.args.c (omega arith) in
     let i = c.loop-node.invariant.0 in
-    let v = c.times-in-count.ensures.value in
+    let v = c.times_in-count.ensures.value in
     (omega arith, omega arith)
 
 pub returns : goal.returns

@@ -12,15 +12,15 @@ moved k l F F' G G' i j p q c =
 
 pub returns-then-not-comparable : goal.returns-then-not-comparable
 returns-then-not-comparable g c =
-    let one = c.in-ok-number.ensures in
-    let two = c.in-ok-other-number.ensures in
+    let one = c.in_ok-number.ensures in
+    let two = c.in_ok-other_number.ensures in
     compared _ _ (left c.args.first) (left c.args.second) c.args.i c.args.j _ _ _ _ _ _ _ _ _ _ _ _ one.law two.law None
     (λ x. c.if-not-comparable.ensures.1 (moved _ _ _ _ _ _ _ _ (sym one.book) (sym two.book) x))
 
-pub same-column-requires : goal.same-column-requires
-same-column-requires g c =
-    let one = c.in-ok-number.ensures in
-    let two = c.in-ok-other-number.ensures in
+pub same_column-requires : goal.same_column-requires
+same_column-requires g c =
+    let one = c.in_ok-number.ensures in
+    let two = c.in_ok-other_number.ensures in
     let can = c.if-not-comparable.ensures.0 tt in
     let s = ap (λ (k : ℕ). length c.args.nodes.now * k) (c.states.ensures ∙ ap (λ (F : Family). F.states) one.book) in
     let t = ap (λ (k : ℕ). length c.args.nodes.now * k) (c.states.ensures ∙ can.2 ∙ ap (λ (F : Family). F.states) two.book) in
@@ -30,11 +30,11 @@ same-column-requires g c =
 
 pub returns : goal.returns
 returns g c =
-    let one = c.in-ok-number.ensures in
-    let two = c.in-ok-other-number.ensures in
+    let one = c.in_ok-number.ensures in
+    let two = c.in_ok-other_number.ensures in
     let can = moved _ _ _ _ _ _ _ _ one.book two.book (c.if-not-comparable.ensures.0 tt) in
-    compared _ _ (left c.args.first) (left c.args.second) c.args.i c.args.j _ _ _ _ _ _ _ _ _ _ _ _ one.law two.law (Some c.same-column.result) (
+    compared _ _ (left c.args.first) (left c.args.second) c.args.i c.args.j _ _ _ _ _ _ _ _ _ _ _ _ one.law two.law (Some c.same_column.result) (
       can,
-      subst (λ (k : ℕ). T c.same-column.result ↔ SameColumn (g.K.Kind.means c.run.new.kind) c.run.new.cells c.args.i (g.L.Kind.means c.run-2.new.kind) c.run-2.new.cells c.args.j k (length c.args.nodes.now))
-          (c.states.ensures ∙ ap (λ (F : Family). F.states) one.book) c.same-column.ensures,
+      subst (λ (k : ℕ). T c.same_column.result ↔ SameColumn (g.K.Kind.means c.run.new.kind) c.run.new.cells c.args.i (g.L.Kind.means c.run-2.new.kind) c.run-2.new.cells c.args.j k (length c.args.nodes.now))
+          (c.states.ensures ∙ ap (λ (F : Family). F.states) one.book) c.same_column.ensures,
     )

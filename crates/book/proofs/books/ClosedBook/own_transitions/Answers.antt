@@ -12,9 +12,9 @@ returns-in-Some c =
     let f = closed_contents c.args.self.now in
     let h : c.args.product < count f = search (rules, nat_tests) in
     let e : c.in-Some.configuration.now ≡ config f c.args.product = search (rules, nat_tests) in
-    let l = subst (λ (x : ℕ). IfOk c.list-all.result (λ v. Listed x f.transitions (vec_items v))) e
-    (subst (λ (ts : List Transition). IfOk c.list-all.result (λ v. Listed c.in-Some.configuration.now ts (vec_items v))) c.deref.ensures.value c.list-all.ensures) in
-    let w = made_own f c.args.product vec_items h c.list-all.result l in
+    let l = subst (λ (x : ℕ). IfOk c.list_all.result (λ v. Listed x f.transitions (vec_items v))) e
+    (subst (λ (ts : List Transition). IfOk c.list_all.result (λ v. Listed c.in-Some.configuration.now ts (vec_items v))) c.deref.ensures.value c.list_all.ensures) in
+    let w = made_own f c.args.product vec_items h c.list_all.result l in
     record { listed = w.0; own = w.1 }
 
 pub returns-in-None : goal.returns-in-None

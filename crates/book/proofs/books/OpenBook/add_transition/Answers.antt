@@ -6,17 +6,17 @@ use Rattle.families.specs.Families.{transition_within, all_within}
 use Rattle.book.proofs.Held.{distinct_push, same_transition_swap, within_push, seen_gone, seen_held}
 use Rattle.book.proofs.books.OpenBook.add_transition.Goals as goal
 
-pub returns-then-place-of-n : goal.returns-then-place-of-n
-returns-then-place-of-n c =
-    let h = seen_held c.args.transition c.deref.ensures.value c.place-of.ensures (omega arith) in search (rules, nat_tests)
+pub returns-then-place_of-n : goal.returns-then-place_of-n
+returns-then-place_of-n c =
+    let h = seen_held c.args.transition c.deref.ensures.value c.place_of.ensures (omega arith) in search (rules, nat_tests)
 
 pub returns-then-n-eq-MAX-TRANSITIONS : goal.returns-then-n-eq-MAX-TRANSITIONS
 returns-then-n-eq-MAX-TRANSITIONS c =
-    let h = seen_gone c.args.transition c.deref.ensures.value c.place-of.ensures (omega arith) in search (rules, nat_tests)
+    let h = seen_gone c.args.transition c.deref.ensures.value c.place_of.ensures (omega arith) in search (rules, nat_tests)
 
-pub invariant-of-self : goal.invariant-of-self
-invariant-of-self c =
-    let h = seen_gone c.args.transition c.deref.ensures.value c.place-of.ensures (omega arith) in
+pub invariant_of-self : goal.invariant_of-self
+invariant_of-self c =
+    let h = seen_gone c.args.transition c.deref.ensures.value c.place_of.ensures (omega arith) in
     let w : transition_within c.args.self.now.states c.args.transition ≡ true = grind (arith, nat_tests) in
     let d = distinct_push same_transition same_transition_swap c.args.transition (vec_items c.args.self.now.transitions) c.args.self.now.lawful.1 h in
     let k = within_push c.args.self.now.states (vec_items c.args.self.now.transitions) c.args.transition c.args.self.now.lawful.2 w in (
@@ -26,8 +26,8 @@ invariant-of-self c =
         (
           (
             c.args.self.now.lawful.0,
-            ap (distinct same_transition) c.push-reserved.ensures.items ∙ d,
-            ap (all_within c.args.self.now.states) c.push-reserved.ensures.items ∙ k,
+            ap (distinct same_transition) c.push_reserved.ensures.items ∙ d,
+            ap (all_within c.args.self.now.states) c.push_reserved.ensures.items ∙ k,
           ),
           tt,
         ),
@@ -36,4 +36,4 @@ invariant-of-self c =
 
 pub returns : goal.returns
 returns c =
-    let h = seen_gone c.args.transition c.deref.ensures.value c.place-of.ensures (omega arith) in search (rules, nat_tests)
+    let h = seen_gone c.args.transition c.deref.ensures.value c.place_of.ensures (omega arith) in search (rules, nat_tests)

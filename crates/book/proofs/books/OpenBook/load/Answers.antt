@@ -9,8 +9,8 @@ use Rattle.book.proofs.Loaded.{grown_entered, ends_there, goes_on, load_ends, lo
 use Rattle.book.proofs.LoadLaw.{lawful_load}
 use Rattle.book.proofs.books.OpenBook.load.Goals as goal
 
-pub invariant-of-self : goal.invariant-of-self
-invariant-of-self c =
+pub invariant_of-self : goal.invariant_of-self
+invariant_of-self c =
     let g = grown_entered (contents c.args.self.now) (contents c.loop-i.self) (contents c.enter-number.new.self) c.args.bytes.now c.loop-i.i _ c.loop-i.invariant c.enter-number.ensures.book in
     let np : c.len-products.result ≡ length (vec_items c.args.self.now.products) = omega arith in
     let ns : c.len-transitions.result ≡ length (vec_items c.args.self.now.transitions) = omega arith in
@@ -43,14 +43,14 @@ returns-then-number-ne-ACCEPTED c =
     let ss : vec_items c.truncate-then-number-ne-ACCEPTED.new.self ≡ vec_items c.args.self.now.transitions =
     c.truncate-then-number-ne-ACCEPTED.ensures.items ∙ ap (λ n. take n (vec_items c.enter-number.new.self.transitions)) ns ∙ g.transitions in
     let z : bad_length c.args.bytes.now ≡ false = grind (arith, nat_tests) in
-    let s = ends_there (contents c.args.self.now) (contents c.loop-i.self) c.args.bytes.now c.loop-i.i c.enter-number.result (length c.args.bytes.now / 8) _ c.loop-i.invariant c.record-at.ensures c.enter-number.ensures.number c.if-number-ne-ACCEPTED.true (omega arith) in
+    let s = ends_there (contents c.args.self.now) (contents c.loop-i.self) c.args.bytes.now c.loop-i.i c.enter-number.result (length c.args.bytes.now / 8) _ c.loop-i.invariant c.record_at.ensures c.enter-number.ensures.number c.if-number-ne-ACCEPTED.true (omega arith) in
     let e = load_ends (contents c.args.self.now) c.args.bytes.now _ z s in
     let b = same_family _ (contents c.args.self.now) g.states ps ss ∙ sym e.1 in
     record { answer = sym e.0; book = b; law = lawful_load (contents c.args.self.now) c.args.bytes.now _ _ (sym e.0) b }
 
 pub loop-i-preserved : goal.loop-i-preserved
 loop-i-preserved c =
-    goes_on (contents c.args.self.now) (contents c.loop-i.self) (contents c.enter-number.new.self) c.args.bytes.now c.loop-i.i c.enter-number.result _ c.loop-i.invariant c.record-at.ensures c.enter-number.ensures.number c.if-number-ne-ACCEPTED.false c.enter-number.ensures.book
+    goes_on (contents c.args.self.now) (contents c.loop-i.self) (contents c.enter-number.new.self) c.args.bytes.now c.loop-i.i c.enter-number.result _ c.loop-i.invariant c.record_at.ensures c.enter-number.ensures.number c.if-number-ne-ACCEPTED.false c.enter-number.ensures.book
 
 pub returns : goal.returns
 returns c =

@@ -8,19 +8,19 @@ use Rattle.book.proofs.books.OpenBook.strike.Goals as goal
 
 pub returns-then-at-len : goal.returns-then-at-len
 returns-then-at-len c =
-    let h = seen_gone c.args.transition c.deref.ensures.value c.place-of-at.ensures (omega arith) in
+    let h = seen_gone c.args.transition c.deref.ensures.value c.place_of-at.ensures (omega arith) in
     let k = without_absent same_transition c.args.transition (vec_items c.args.self.now.transitions) h in
     search (rules, nat_tests)
 
 pub remove-gone-requires : goal.remove-gone-requires
 remove-gone-requires c =
-    let h = seen_low c.args.transition c.deref.ensures.value c.place-of-at.ensures in omega arith
+    let h = seen_low c.args.transition c.deref.ensures.value c.place_of-at.ensures in omega arith
 
-pub invariant-of-self : goal.invariant-of-self
-invariant-of-self c =
-    let l = seen_low c.args.transition c.deref.ensures.value c.place-of-at.ensures in
+pub invariant_of-self : goal.invariant_of-self
+invariant_of-self c =
+    let l = seen_low c.args.transition c.deref.ensures.value c.place_of-at.ensures in
     let e : vec_items c.remove-gone.new.self ≡ without same_transition c.args.transition (vec_items c.args.self.now.transitions) =
-    c.remove-gone.ensures.items ∙ sym (seen_without c.args.transition c.deref.ensures.value c.place-of-at.ensures (omega arith)) in
+    c.remove-gone.ensures.items ∙ sym (seen_without c.args.transition c.deref.ensures.value c.place_of-at.ensures (omega arith)) in
     let d = distinct_without same_transition c.args.transition (vec_items c.args.self.now.transitions) c.args.self.now.lawful.1 in
     let k = within_without c.args.self.now.states c.args.transition (vec_items c.args.self.now.transitions) c.args.self.now.lawful.2 in (
       (omega arith, omega arith, omega arith, omega arith),
@@ -32,8 +32,8 @@ invariant-of-self c =
 
 pub returns : goal.returns
 returns c =
-    let l = seen_low c.args.transition c.deref.ensures.value c.place-of-at.ensures in
-    let h = seen_held c.args.transition c.deref.ensures.value c.place-of-at.ensures (omega arith) in
+    let l = seen_low c.args.transition c.deref.ensures.value c.place_of-at.ensures in
+    let h = seen_held c.args.transition c.deref.ensures.value c.place_of-at.ensures (omega arith) in
     let e : vec_items c.remove-gone.new.self ≡ without same_transition c.args.transition (vec_items c.args.self.now.transitions) =
-    c.remove-gone.ensures.items ∙ sym (seen_without c.args.transition c.deref.ensures.value c.place-of-at.ensures (omega arith)) in
+    c.remove-gone.ensures.items ∙ sym (seen_without c.args.transition c.deref.ensures.value c.place_of-at.ensures (omega arith)) in
     search (rules, nat_tests)

@@ -435,8 +435,8 @@ walk-returns-in-And g t c =
           (subst (λ m. (s p : ℕ) → s < S → rows m S c.combine-in-And.new.cells all n s p ≡ (rows m S c.walk-in-And-2.new.cells all c.in-And.c s p && rows m S c.walk-in-And-2.new.cells all c.in-And.d s p)) (sym one2) c.combine-in-And.ensures.value);
     }
 
-pub walk-offset-bounds-gathered-expr : goal.walk-offset-bounds-gathered-expr
-walk-offset-bounds-gathered-expr g t c =
+pub walk-offset_bounds-gathered-expr : goal.walk-offset_bounds-gathered-expr
+walk-offset_bounds-gathered-expr g t c =
     let F = family_of c.args.self.now in
     let S = c.args.self.now.states in
     let ns = c.args.nodes.now in
@@ -498,8 +498,8 @@ walk-returns-in-Diamond g t c =
           (subst (λ m. (s p : ℕ) → s < S → T (rows m S c.diamond.new.cells all n s p) ↔ (T (m (get_or c.args.gathered.now.satisfied.now c.in-Diamond.expr c.index-gathered-expr.result) p) × ((p < count F) × SomeLeads F c.in-Diamond.action (rows m S c.walk-in-Diamond.new.cells all c.in-Diamond.part) s p))) (sym one1) c.diamond.ensures.value);
     }
 
-pub walk-offset-bounds-gathered-expr-in-Box : goal.walk-offset-bounds-gathered-expr-in-Box
-walk-offset-bounds-gathered-expr-in-Box g t c =
+pub walk-offset_bounds-gathered-expr-in-Box : goal.walk-offset_bounds-gathered-expr-in-Box
+walk-offset_bounds-gathered-expr-in-Box g t c =
     let F = family_of c.args.self.now in
     let S = c.args.self.now.states in
     let ns = c.args.nodes.now in
@@ -522,8 +522,8 @@ walk-bounds-gathered-expr-in-Box g t c =
     let e< : c.in-Box.expr < 64 = omega (arith, h.1, c.requires.sound.few_expressions) in
     omega (arith, c.requires.gathered.long.1)
 
-pub walk-box-over-requires : goal.walk-box-over-requires
-walk-box-over-requires g t c =
+pub walk-box_over-requires : goal.walk-box_over-requires
+walk-box_over-requires g t c =
     let F = family_of c.args.self.now in
     let S = c.args.self.now.states in
     let ns = c.args.nodes.now in
@@ -556,10 +556,10 @@ walk-returns-in-Box g t c =
     subst (λ y. Collects (g.K.Kind.means c.args.kind.now) F y (λ p. T (satisfies (config F p) (expression_at es c.in-Box.expr)))) (get_or_default c.args.gathered.now.satisfied.now c.in-Box.expr all c.index-gathered-expr-in-Box.result (omega (arith, c.requires.gathered.long.1)))
     (c.requires.gathered.satisfying c.in-Box.expr h.1) in
     record {
-      kept = λ x p. c.box-over.ensures.kept x p ∙ c.walk-in-Box.ensures.kept x p;
-      framed = framed_then (g.K.Kind.means c.args.kind.now) F es ns c.requires.sound all n _ _ _ (framed_part (g.K.Kind.means c.args.kind.now) F es ns c.requires.sound all n c.in-Box.part _ _ npart c.walk-in-Box.ensures.framed) (framed_row (g.K.Kind.means c.args.kind.now) F es ns c.requires.sound all n _ _ c.requires.fits.0 c.box-over.ensures.others);
-      walked = walked_box (g.K.Kind.means c.args.kind.now) F es ns c.requires.sound all n c.in-Box.action c.in-Box.expr c.in-Box.part (get_or c.args.gathered.now.satisfied.now c.in-Box.expr c.index-gathered-expr-in-Box.result) c.args.cells.now c.walk-in-Box.new.cells c.box-over.new.cells c.in-Box.is sat c.walk-in-Box.ensures.walked c.box-over.ensures.others
-          (subst (λ m. (s p : ℕ) → s < S → T (rows m S c.box-over.new.cells all n s p) ↔ ((p < count F) × (T (m (get_or c.args.gathered.now.satisfied.now c.in-Box.expr c.index-gathered-expr-in-Box.result) p) → AllLead F c.in-Box.action (rows m S c.walk-in-Box.new.cells all c.in-Box.part) s p))) (sym one1) c.box-over.ensures.value);
+      kept = λ x p. c.box_over.ensures.kept x p ∙ c.walk-in-Box.ensures.kept x p;
+      framed = framed_then (g.K.Kind.means c.args.kind.now) F es ns c.requires.sound all n _ _ _ (framed_part (g.K.Kind.means c.args.kind.now) F es ns c.requires.sound all n c.in-Box.part _ _ npart c.walk-in-Box.ensures.framed) (framed_row (g.K.Kind.means c.args.kind.now) F es ns c.requires.sound all n _ _ c.requires.fits.0 c.box_over.ensures.others);
+      walked = walked_box (g.K.Kind.means c.args.kind.now) F es ns c.requires.sound all n c.in-Box.action c.in-Box.expr c.in-Box.part (get_or c.args.gathered.now.satisfied.now c.in-Box.expr c.index-gathered-expr-in-Box.result) c.args.cells.now c.walk-in-Box.new.cells c.box_over.new.cells c.in-Box.is sat c.walk-in-Box.ensures.walked c.box_over.ensures.others
+          (subst (λ m. (s p : ℕ) → s < S → T (rows m S c.box_over.new.cells all n s p) ↔ ((p < count F) × (T (m (get_or c.args.gathered.now.satisfied.now c.in-Box.expr c.index-gathered-expr-in-Box.result) p) → AllLead F c.in-Box.action (rows m S c.walk-in-Box.new.cells all c.in-Box.part) s p))) (sym one1) c.box_over.ensures.value);
     }
 
 pub iterate-combine-requires : goal.iterate-combine-requires
@@ -572,8 +572,8 @@ iterate-combine-requires g t c =
     let n = c.args.n in
     record { fits = (row_fits (n) (length ns) S (length c.args.cells.now) (omega arith) (omega arith), row_fits (n) (length ns) S (length c.args.cells.now) (omega arith) (omega arith), row_fits (n) (length ns) S (length c.args.cells.now) (omega arith) (omega arith)) }
 
-pub iterate-overflow-mul-c : goal.iterate-overflow-mul-c
-iterate-overflow-mul-c g t c =
+pub iterate-overflow_mul-c : goal.iterate-overflow_mul-c
+iterate-overflow_mul-c g t c =
     let F = family_of c.args.self.now in
     let S = c.args.self.now.states in
     let ns = c.args.nodes.now in
@@ -586,8 +586,8 @@ iterate-overflow-mul-c g t c =
     let m : c.args.c * S ≤ 64 * 64 = mul-le c.args.c S 64 64 (omega (arith, c.requires.sound.few)) (omega arith) in
     omega arith
 
-pub iterate-same-rows-requires : goal.iterate-same-rows-requires
-iterate-same-rows-requires g t c =
+pub iterate-same_rows-requires : goal.iterate-same_rows-requires
+iterate-same_rows-requires g t c =
     let F = family_of c.args.self.now in
     let S = c.args.self.now.states in
     let ns = c.args.nodes.now in
@@ -633,8 +633,8 @@ iterate-rounds-init g t c =
       λ η h. round_first F es ns η c.args.start c.args.c ((g.K.Kind.means c.combine.new.kind) all) every (rows (g.K.Kind.means c.combine.new.kind) S c.combine.new.cells all n) _ _ x c.requires.starts first,
     )
 
-pub iterate-walk-requires : goal.iterate-walk-requires
-iterate-walk-requires g t c κs within =
+pub iterate_walk-requires : goal.iterate_walk-requires
+iterate_walk-requires g t c κs within =
     let F = family_of c.args.self.now in
     let S = c.args.self.now.states in
     let ns = c.args.nodes.now in
@@ -735,7 +735,7 @@ iterate-rounds-smaller g t c =
     round_less F es ns env c.args.start c.args.c V W x
     (even, λ v b. means_same F (Z c.args.c) W (formula_at es ns c.args.c) (put env v V) (put env v V) (λ s p s< p<. same_by _ _ (sym (copied s p s<))) (λ w. same_refl F (put env v V w)) (filled env stands V (same_refl F V) v b).0)
     (c.rounds.invariant.3 env stands)
-    (λ same. both_ways _ c.if-same-rows.false (c.same-rows.ensures.full (λ s y p h.
+    (λ same. both_ways _ c.if-same_rows.false (c.same_rows.ensures.full (λ s y p h.
     kz _ p ∙ ap (λ z. (g.K.Kind.means c.combine.new.kind) z p) (get_or_default c.walk.new.cells (n * S + s) y all (omega arith)) ∙ still s p h
     ∙ rows_equal F V W c.rounds.invariant.2 only same s p h ∙ copied s p h
     ∙ ap (λ z. (g.K.Kind.means c.combine.new.kind) z p) (get_or_default c.walk.new.cells (c.args.c * S + s) all y (omega arith)) ∙ sym (kz _ p))))
@@ -765,7 +765,7 @@ iterate-returns g t c =
     part_filled (g.K.Kind.means c.combine.new.kind) F es ns c.requires.sound all n c.args.c nc c.rounds.cells c.walk.new.cells η v W b same (stands_after (g.K.Kind.means c.combine.new.kind) F es ns c.requires.sound all n n c.combine.new.cells c.rounds.cells η (omega arith) c.rounds.invariant.1 h) wc in
     let even = λ (v : ℕ) (b : Binds v x). even_part es ns c.requires.sound.even n v c.args.c b nc in
     let kept : (y : g.row.K-Set.Denot) (q : ℕ) → (g.K.Kind.means c.walk.new.kind) y q ≡ (g.K.Kind.means c.args.kind.now) y q = λ y q. kz y q ∙ c.combine.ensures.kept y q in
-    let same : (s p : ℕ) → s < S → V s p ≡ Z c.args.c s p = λ s p h. sym (still s p h) ∙ sym (kz _ p) ∙ c.same-rows.ensures.sound c.if-same-rows.true s all p h ∙ kz _ p in
+    let same : (s p : ℕ) → s < S → V s p ≡ Z c.args.c s p = λ s p h. sym (still s p h) ∙ sym (kz _ p) ∙ c.same_rows.ensures.sound c.if-same_rows.true s all p h ∙ kz _ p in
     let alike : Same F (Z n) V = λ s p s< p<. same_by _ _ (still s p s<) in
     let done : Walked F es ns (rows (g.K.Kind.means c.combine.new.kind) S c.args.cells.now all) Z n =
     walked (g.K.Kind.means c.combine.new.kind) F es ns c.requires.sound all n x refl c.args.cells.now c.walk.new.cells c.walk.new.cells (λ i y l. refl, λ i y l. refl)

@@ -27,12 +27,12 @@ returns g c =
     let one = one_reading M (g.K.Kind.means c.complement-outside.new.kind) k0 in
     record {
       value = λ s p h. box_at F c.args.action (λ u. M (get_or c.args.cells.now (c.args.c * S + u) all)) (λ u. M (get_or c.complement-outside.result u all)) s p
-          (M all p) (M c.args.chosen p) (M (get_or c.sources-from.result s all) p) (M (get_or c.write-entry.new.cells (c.args.n * S + s) all) p)
+          (M all p) (M c.args.chosen p) (M (get_or c.sources-from.result s all) p) (M (get_or c.write_entry.new.cells (c.args.n * S + s) all) p)
           (c.requires.everyone p)
           (λ u u<. c.complement-outside.ensures.value u all p (omega arith) ∙ ap (λ y. M all p && not (M y p)) (c.taken-part.ensures u all u<))
           (subst (λ m. T (m (get_or c.sources-from.result s all) p) ↔ ((p < count F) × SomeLeads F c.args.action (λ u. m (get_or c.complement-outside.result u all)) s p)) (sym one)
           (c.sources-from.ensures.value all (subst (λ m. Meeting m F c.args.gathered.now.conditions.now all) one c.requires.meeting) s h p))
-          (sym (k1 _ p) ∙ c.write-entry.ensures.value s p h ∙ each_not (k1 _ p) (k1 _ p) (k1 _ p ∙ ap (λ y. M y p) (get_or-replicate 64 s c.args.chosen all (omega arith))));
-      others = c.write-entry.ensures.others;
-      kept = λ x p. c.write-entry.ensures.kept x p ∙ k1 x p;
+          (sym (k1 _ p) ∙ c.write_entry.ensures.value s p h ∙ each_not (k1 _ p) (k1 _ p) (k1 _ p ∙ ap (λ y. M y p) (get_or-replicate 64 s c.args.chosen all (omega arith))));
+      others = c.write_entry.ensures.others;
+      kept = λ x p. c.write_entry.ensures.kept x p ∙ k1 x p;
     }

@@ -20,10 +20,10 @@ returns-then-number-ne-ACCEPTED g c =
       kept = λ s p. refl;
     }
 
-pub returns-then-self-places-count : goal.returns-then-self-places-count
-returns-then-self-places-count g c =
+pub returns-then-self-places_count : goal.returns-then-self-places_count
+returns-then-self-places_count g c =
     record {
-      answer = λ d. too_many_products (c.judge-number.ensures.sound (omega arith)) (omega (arith, c.places-count.ensures));
+      answer = λ d. too_many_products (c.judge-number.ensures.sound (omega arith)) (omega (arith, c.places_count.ensures));
       refused = λ _. (refl, refl);
       room = λ e. absurd (omega arith);
       filled = λ e. absurd (omega arith);
@@ -35,7 +35,7 @@ returns-then-self-places-count g c =
 pub returns-then-cells-nodes : goal.returns-then-cells-nodes
 returns-then-cells-nodes g c =
     record {
-      answer = λ d. too_few_cells (c.judge-number.ensures.sound (omega arith)) (omega (arith, c.places-count.ensures)) (omega arith);
+      answer = λ d. too_few_cells (c.judge-number.ensures.sound (omega arith)) (omega (arith, c.places_count.ensures)) (omega arith);
       refused = λ _. (refl, refl);
       room = λ e. absurd (omega arith);
       filled = λ e. absurd (omega arith);
@@ -55,10 +55,10 @@ returns g c =
       answer = λ d.
           let read : c.index-cells-nodes.result ≡ get_or c.fill.new.cells (last ns * S) d =
           get_or_read c.fill.new.cells (last ns * S) c.index-cells-nodes.result (omega arith) c.index-cells-nodes.is d in
-          let value : how_many (count F) (g.K.Kind.means c.fill.new.kind (get_or c.fill.new.cells (last ns * S) d)) ≡ c.count-in.result =
-          (let v = c.count-in.ensures in let is = c.index-cells-nodes.is in cc) in
+          let value : how_many (count F) (g.K.Kind.means c.fill.new.kind (get_or c.fill.new.cells (last ns * S) d)) ≡ c.count_in.result =
+          (let v = c.count_in.ensures in let is = c.index-cells-nodes.is in cc) in
           subst (λ (v : ℕ). Answered F c.args.exprs.now ns g.K.Kind.places (length c.args.cells.now) (g.K.Kind.means c.fill.new.kind (get_or c.fill.new.cells (last ns * S) d)) 0 v) value
-          (accepted sound (omega (arith, c.places-count.ensures)) (omega arith));
+          (accepted sound (omega (arith, c.places_count.ensures)) (omega arith));
       refused = λ off. absurd (off refl);
       room = λ _. omega arith;
       filled = λ _. c.fill.ensures.filled;

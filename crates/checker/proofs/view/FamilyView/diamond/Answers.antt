@@ -21,14 +21,14 @@ returns g c =
     record {
       value = λ s p h.
           let led = c.sources-from.ensures.value all c.requires.meeting s h p in
-          let cell : M (get_or c.write-entry.new.cells (c.args.n * S + s) all) p ≡ (M (get_or c.sources-from.result s all) p && M c.args.chosen p) =
-          sym (c.sources-from.ensures.kept _ p) ∙ c.write-entry.ensures.value s p h
+          let cell : M (get_or c.write_entry.new.cells (c.args.n * S + s) all) p ≡ (M (get_or c.sources-from.result s all) p && M c.args.chosen p) =
+          sym (c.sources-from.ensures.kept _ p) ∙ c.write_entry.ensures.value s p h
           ∙ each (c.sources-from.ensures.kept _ p) (c.sources-from.ensures.kept _ p ∙ ap (λ y. M y p) (get_or-replicate 64 s c.args.chosen all (omega arith))) in (
             λ t. (let b = and_split (M (get_or c.sources-from.result s all) p) (M c.args.chosen p) (subst T cell t) in
                 (b.1, ((led.0 b.0).0, some_same F c.args.action (λ u. M (get_or c.taken-targets.result u all)) (λ u. M (get_or c.args.cells.now (c.args.c * S + u) all)) s p (λ u u<. e u p u<) (led.0 b.0).1))),
             λ x. subst T (sym cell) (and_both (M (get_or c.sources-from.result s all) p) (M c.args.chosen p)
                 (led.1 (x.1.0, some_same F c.args.action (λ u. M (get_or c.args.cells.now (c.args.c * S + u) all)) (λ u. M (get_or c.taken-targets.result u all)) s p (λ u u<. sym (e u p u<)) x.1.1)) x.0),
           );
-      others = c.write-entry.ensures.others;
-      kept = λ x p. c.write-entry.ensures.kept x p ∙ c.sources-from.ensures.kept x p;
+      others = c.write_entry.ensures.others;
+      kept = λ x p. c.write_entry.ensures.kept x p ∙ c.sources-from.ensures.kept x p;
     }

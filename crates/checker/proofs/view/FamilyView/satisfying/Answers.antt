@@ -13,8 +13,8 @@ use Rattle.checker.proofs.view.FamilyView.satisfying.Goals as goal
 pub featuring-requires : goal.featuring-requires
 featuring-requires g c = record { fits = (omega arith, c.requires.lower.1 c.args.n c.in-Feature.k c.in-Feature.is) }
 
-pub offset-bounds-sets-c : goal.offset-bounds-sets-c
-offset-bounds-sets-c g c =
+pub offset_bounds-sets-c : goal.offset_bounds-sets-c
+offset_bounds-sets-c g c =
     let h : c.in-Not.c < c.args.n = c.requires.lower.0 c.args.n c.in-Not.c (subst (λ (y : Expr). PartOf c.in-Not.c y) (sym c.in-Not.is) (refl)) in
     omega arith
 
@@ -23,8 +23,8 @@ bounds-sets-c g c =
     let h : c.in-Not.c < c.args.n = c.requires.lower.0 c.args.n c.in-Not.c (subst (λ (y : Expr). PartOf c.in-Not.c y) (sym c.in-Not.is) (refl)) in
     omega arith
 
-pub offset-bounds-sets-c-in-Or : goal.offset-bounds-sets-c-in-Or
-offset-bounds-sets-c-in-Or g c =
+pub offset_bounds-sets-c-in-Or : goal.offset_bounds-sets-c-in-Or
+offset_bounds-sets-c-in-Or g c =
     let h : c.in-Or.c < c.args.n = c.requires.lower.0 c.args.n c.in-Or.c (subst (λ (y : Expr). PartOf c.in-Or.c y) (sym c.in-Or.is) (inl refl)) in
     omega arith
 
@@ -33,8 +33,8 @@ bounds-sets-c-in-Or g c =
     let h : c.in-Or.c < c.args.n = c.requires.lower.0 c.args.n c.in-Or.c (subst (λ (y : Expr). PartOf c.in-Or.c y) (sym c.in-Or.is) (inl refl)) in
     omega arith
 
-pub offset-bounds-sets-d : goal.offset-bounds-sets-d
-offset-bounds-sets-d g c =
+pub offset_bounds-sets-d : goal.offset_bounds-sets-d
+offset_bounds-sets-d g c =
     let h : c.in-Or.d < c.args.n = c.requires.lower.0 c.args.n c.in-Or.d (subst (λ (y : Expr). PartOf c.in-Or.d y) (sym c.in-Or.is) (inr refl)) in
     omega arith
 
@@ -43,8 +43,8 @@ bounds-sets-d g c =
     let h : c.in-Or.d < c.args.n = c.requires.lower.0 c.args.n c.in-Or.d (subst (λ (y : Expr). PartOf c.in-Or.d y) (sym c.in-Or.is) (inr refl)) in
     omega arith
 
-pub offset-bounds-sets-c-in-And : goal.offset-bounds-sets-c-in-And
-offset-bounds-sets-c-in-And g c =
+pub offset_bounds-sets-c-in-And : goal.offset_bounds-sets-c-in-And
+offset_bounds-sets-c-in-And g c =
     let h : c.in-And.c < c.args.n = c.requires.lower.0 c.args.n c.in-And.c (subst (λ (y : Expr). PartOf c.in-And.c y) (sym c.in-And.is) (inl refl)) in
     omega arith
 
@@ -53,8 +53,8 @@ bounds-sets-c-in-And g c =
     let h : c.in-And.c < c.args.n = c.requires.lower.0 c.args.n c.in-And.c (subst (λ (y : Expr). PartOf c.in-And.c y) (sym c.in-And.is) (inl refl)) in
     omega arith
 
-pub offset-bounds-sets-d-in-And : goal.offset-bounds-sets-d-in-And
-offset-bounds-sets-d-in-And g c =
+pub offset_bounds-sets-d-in-And : goal.offset_bounds-sets-d-in-And
+offset_bounds-sets-d-in-And g c =
     let h : c.in-And.d < c.args.n = c.requires.lower.0 c.args.n c.in-And.d (subst (λ (y : Expr). PartOf c.in-And.d y) (sym c.in-And.is) (inr refl)) in
     omega arith
 

@@ -24,8 +24,8 @@ loop-i-init g c =
           (λ s p h. ap (λ y. M y p) (get_or-replicate 64 s c.none-from.result d (omega arith)) ∙ c.none-from.ensures.value p),
     )
 
-pub offset-bounds-targets-transition : goal.offset-bounds-targets-transition
-offset-bounds-targets-transition g c =
+pub offset_bounds-targets-transition : goal.offset_bounds-targets-transition
+offset_bounds-targets-transition g c =
     let w = within_at c.args.self.now.states c.args.self.now.transitions.now c.loop-i.i nowhere c.args.self.now.within (omega arith) in
     omega arith
 
@@ -64,21 +64,21 @@ loop-i-preserved g c =
     elim c.if-transition-action.branch [
       | then-transition-action w ↦ (
           let b = within_at c.args.self.now.states F.transitions i nowhere c.args.self.now.within in-range in
-          let kept : (x : g.row.K-Set.Denot) (q : ℕ) → g.K.Kind.means w.with-led.new.kind x q ≡ M x q = λ x q. w.with-led.ensures.kept x q ∙ c.loop-i.invariant.0 x q in
+          let kept : (x : g.row.K-Set.Denot) (q : ℕ) → g.K.Kind.means w.with_led.new.kind x q ≡ M x q = λ x q. w.with_led.ensures.kept x q ∙ c.loop-i.invariant.0 x q in
           let cond : (d : g.row.K-Set.Denot) → w.index-gathered-i.result ≡ get_or c.args.gathered.now.conditions.now i d = get_or_read c.args.gathered.now.conditions.now i w.index-gathered-i.result (omega arith) w.index-gathered-i.is in
           let tgt : (d : g.row.K-Set.Denot) → w.index-targets-transition.result ≡ get_or c.args.targets.now t.target d = get_or_read c.args.targets.now t.target w.index-targets-transition.result (omega arith) w.index-targets-transition.is in
           let old : (d : g.row.K-Set.Denot) → w.index-from-source.result ≡ get_or c.loop-i.from t.source d = get_or_read c.loop-i.from t.source w.index-from-source.result (omega arith) w.index-from-source.is in
-          let led : (d : g.row.K-Set.Denot) (p : ℕ) → g.K.Kind.means c.loop-i.kind w.with-led.result p
+          let led : (d : g.row.K-Set.Denot) (p : ℕ) → g.K.Kind.means c.loop-i.kind w.with_led.result p
           ≡ (g.K.Kind.means c.loop-i.kind (get_or c.loop-i.from t.source d) p
           || (g.K.Kind.means c.loop-i.kind (get_or c.args.gathered.now.conditions.now i d) p && g.K.Kind.means c.loop-i.kind (get_or c.args.targets.now t.target d) p)) =
-          λ d p. (let a = cond d in let z = tgt d in let o = old d in let v = w.with-led.ensures.value p in
+          λ d p. (let a = cond d in let z = tgt d in let o = old d in let v = w.with_led.ensures.value p in
           let x = w.index-gathered-i.is in let y = w.index-targets-transition.is in let u = w.index-from-source.is in cc) in (
             λ x q. ap (λ k. g.K.Kind.means k x q) w.kind-is ∙ kept x q,
-            ap length w.from-is ∙ length-set c.loop-i.from t.source w.with-led.result ∙ c.loop-i.invariant.1,
+            ap length w.from-is ∙ length-set c.loop-i.from t.source w.with_led.result ∙ c.loop-i.invariant.1,
             λ d meet. subst (λ from. GatheredTo M F c.args.targets.now d c.args.action from (i + 1)) (sym w.from-is)
-                (same_action M F c.args.targets.now d c.args.action i nowhere in-range c.loop-i.from w.with-led.result (get_or c.args.gathered.now.conditions.now i d)
+                (same_action M F c.args.targets.now d c.args.action i nowhere in-range c.loop-i.from w.with_led.result (get_or c.args.gathered.now.conditions.now i d)
                 w.if-transition-action.true b.1 (omega arith) (meet i nowhere in-range)
-                (λ p. sym (c.loop-i.invariant.0 w.with-led.result p) ∙ led d p ∙ both (c.loop-i.invariant.0 (get_or c.loop-i.from t.source d) p) (each (c.loop-i.invariant.0 (get_or c.args.gathered.now.conditions.now i d) p) (c.loop-i.invariant.0 (get_or c.args.targets.now t.target d) p)))
+                (λ p. sym (c.loop-i.invariant.0 w.with_led.result p) ∙ led d p ∙ both (c.loop-i.invariant.0 (get_or c.loop-i.from t.source d) p) (each (c.loop-i.invariant.0 (get_or c.args.gathered.now.conditions.now i d) p) (c.loop-i.invariant.0 (get_or c.args.targets.now t.target d) p)))
                 (c.loop-i.invariant.2 d meet)),
           ))
       | else-transition-action w ↦ (

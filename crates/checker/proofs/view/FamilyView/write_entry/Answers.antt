@@ -7,13 +7,13 @@ returns g c =
     let S : ℕ = c.args.self.now.states in
     let a : ℕ = c.args.n * S in
     let part : length (take (a + S - a) (drop a c.args.cells.now)) ≡ S = simp (length-take, length-drop) (omega arith) in
-    let long : length c.write-row.new.row ≡ S = omega arith in
+    let long : length c.write_row.new.row ≡ S = omega arith in
     let room : a ≤ length c.args.cells.now = omega arith in
     record {
       value = λ s p l.
-          let w = c.write-row.ensures.value s c.args.all p (omega arith) in
-          let e = put_at a (a + S - a) c.args.cells.now c.write-row.new.row s c.args.all room (omega arith) in
+          let w = c.write_row.ensures.value s c.args.all p (omega arith) in
+          let e = put_at a (a + S - a) c.args.cells.now c.write_row.new.row s c.args.all room (omega arith) in
           cc;
-      others = (λ i x l. put_below a _ c.args.cells.now c.write-row.new.row i x room l, λ i x l. put_above a _ c.args.cells.now c.write-row.new.row i x room (omega arith) (omega arith));
-      kept = c.write-row.ensures.kept;
+      others = (λ i x l. put_below a _ c.args.cells.now c.write_row.new.row i x room l, λ i x l. put_above a _ c.args.cells.now c.write_row.new.row i x room (omega arith) (omega arith));
+      kept = c.write_row.ensures.kept;
     }

@@ -8,8 +8,8 @@ pub returns-then-refusal-ne-ACCEPTED : goal.returns-then-refusal-ne-ACCEPTED
 returns-then-refusal-ne-ACCEPTED g c =
     refusal_at (family_of c.args.self.now) c.args.exprs.now c.args.nodes.now c.args.self.now.book.sized.1 _ _ c.requires.0 _ c.args.cells.now c.requires.1 c.requires.1 c.check-refusal.ensures.answer c.if-refusal-ne-ACCEPTED.true
 
-pub overflow-sub-whole : goal.overflow-sub-whole
-overflow-sub-whole g c =
+pub overflow_sub-whole : goal.overflow_sub-whole
+overflow_sub-whole g c =
     (sound_tables_at (family_of c.args.self.now) c.args.exprs.now c.args.nodes.now c.args.self.now.book.sized.1 _ _ c.requires.0 c.args.cells.now c.requires.1 c.check-refusal.ensures.answer c.if-refusal-ne-ACCEPTED.false).0.some
 
 pub of-requires : goal.of-requires

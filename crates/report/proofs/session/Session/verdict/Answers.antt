@@ -8,8 +8,8 @@ use Rattle.report.proofs.session.Session.verdict.Goals as goal
 pub returns-then-refusal-ne-ACCEPTED : goal.returns-then-refusal-ne-ACCEPTED
 returns-then-refusal-ne-ACCEPTED c = unread (tried_of c.deref.ensures.value c.deref-2.ensures.value refl refl c.read-refusal.ensures) c.if-refusal-ne-ACCEPTED.true
 
-pub slice-bounds-checked-end-2 : goal.slice-bounds-checked-end-2
-slice-bounds-checked-end-2 c =
+pub slice_bounds-checked-end-2 : goal.slice_bounds-checked-end-2
+slice_bounds-checked-end-2 c =
     let few : c.read-refusal.result.1 ≤ 64 = few_read c.if-refusal-ne-ACCEPTED.false (tried_of c.deref.ensures.value c.deref-2.ensures.value refl refl c.read-refusal.ensures) in search rules
 
 pub returns : goal.returns

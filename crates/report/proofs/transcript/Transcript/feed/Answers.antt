@@ -10,7 +10,7 @@ returns c = record {
   within = λ _. (
     refl,
     elim c.if-len-lt-KEPT.branch [
-      | then-len-lt-KEPT w ↦ ap (λ t. vec_items t.line) w.self-is ∙ w.push-reserved.ensures.items ∙ one_kept c.args.self.now.line.items c.args.byte (omega (arith, c.args.self.now.line.ok.0))
+      | then-len-lt-KEPT w ↦ ap (λ t. vec_items t.line) w.self-is ∙ w.push_reserved.ensures.items ∙ one_kept c.args.self.now.line.items c.args.byte (omega (arith, c.args.self.now.line.ok.0))
       | else-len-lt-KEPT w ↦ ap (λ t. vec_items t.line) w.self-is ∙ none_kept c.args.self.now.line.items c.args.byte (omega (arith, c.args.self.now.line.ok.0, c.args.self.now.short))
     ],
     elim c.if-len-lt-KEPT.branch [ then-len-lt-KEPT w ↦ ap (λ t. t.number) w.self-is | else-len-lt-KEPT w ↦ ap (λ t. t.number) w.self-is ],
