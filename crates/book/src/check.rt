@@ -34,13 +34,13 @@ impl ClosedBook {
         kind: &mut K,
         cells: &mut [K::Set],
     ) -> (u8, usize)
-        ensures answer { (d : K.Set) → Answered (closed_contents self.now) exprs.now nodes.now places (length cells.old) (means kind.new (slice_index_or cells.new (last nodes.now * (closed_contents self.now).states) d)) result.0 result.1 }
+        ensures answer { (d : K.Set) → Answered (closed_contents self.now) exprs.now nodes.now K.places (length cells.old) (K.means kind.new (slice_index_or cells.new (last nodes.now * (closed_contents self.now).states) d)) result.0 result.1 }
         ensures refused { (result.0 ≢ 0) → (kind.new ≡ kind.old) × (cells.new ≡ cells.old) }
         ensures room { result.0 ≡ 0 → length nodes.now * (closed_contents self.now).states ≤ length cells.old }
-        ensures filled { result.0 ≡ 0 → (d : K.Set) → Filled (closed_contents self.now) exprs.now nodes.now (row_of (means kind.new) (closed_contents self.now).states cells.new d) no_pairs (last nodes.now) }
-        ensures products { result.0 ≡ 0 → (d : K.Set) (n : ℕ) → n < length nodes.now → OnlyProducts (closed_contents self.now) (row_of (means kind.new) (closed_contents self.now).states cells.new d n) }
+        ensures filled { result.0 ≡ 0 → (d : K.Set) → Filled (closed_contents self.now) exprs.now nodes.now (row_of (K.means kind.new) (closed_contents self.now).states cells.new d) no_pairs (last nodes.now) }
+        ensures products { result.0 ≡ 0 → (d : K.Set) (n : ℕ) → n < length nodes.now → OnlyProducts (closed_contents self.now) (row_of (K.means kind.new) (closed_contents self.now).states cells.new d n) }
         ensures beyond { result.0 ≡ 0 → (i : ℕ) (d : K.Set) → length nodes.now * (closed_contents self.now).states ≤ i → slice_index_or cells.new i d ≡ slice_index_or cells.old i d }
-        ensures kept { (s : K.Set) (p : ℕ) → means kind.new s p ≡ means kind.old s p }
+        ensures kept { (s : K.Set) (p : ℕ) → K.means kind.new s p ≡ K.means kind.old s p }
     {
         self.view().check(exprs, nodes, kind, cells)
     }

@@ -1,9 +1,9 @@
 -- Sets that collect the products for which something is so.
-use Rattle.std.proofs.Common.{◌≡◌, ℕ, zero, suc, ◌+◌, ◌<◌, ◌≤◌, Bool, true, false, not, ◌&&◌, ◌||◌, T, eqb, ltb, ◌↔◌, List, [], ◌∷◌, length, get_or, set, replicate, sym, refl, ap, ◌∙◌, subst, inl, inr, arith, eqb→eq, ltb→lt}
+use Rattle.std.proofs.Common.{◌≡◌, ℕ, zero, suc, ◌+◌, ◌<◌, ◌≤◌, Bool, true, false, not, ◌&&◌, ◌||◌, T, eqb, ltb, ◌↔◌, List, length, get_or, set, replicate, sym, refl, ap, ◌∙◌, subst, inl, inr, arith, eqb→eq, ltb→lt}
 use Rattle.std.proofs.lemmas.Bool.{cases_eq, lt-ltb}
 use Rattle.std.proofs.lemmas.List.{get_or-set_same, get_or-set_other, length-set}
 use Rattle.families.specs.declared.Transition.{Transition}
-use Rattle.families.specs.Families.{Family, count, config}
+use Rattle.families.specs.Families.{Family, config}
 use Rattle.families.proofs.Tests.{or_split, or_left, or_right, and_split, and_both, not_iff, eq→eqb}
 use Rattle.formulas.specs.Trees.{Expression}
 use Rattle.formulas.specs.Tables.{Binds, as_expression, expression_at}

@@ -1,27 +1,25 @@
 -- The rounds of a fixpoint in the rows: how it starts, what lasts, that it ends, and what it ends with.
-use Rattle.std.proofs.Common.{◌≡◌, ℕ, ◌+◌, ◌-◌, ◌*◌, ◌<◌, ◌≤◌, Bool, true, false, cond, not, ◌&&◌, ◌||◌, T, eqb, ◌⊎◌, ◌↔◌, List, length, get_or, sym, refl, ap, ◌∙◌, subst, inl, inr, arith, eqb→eq}
+use Rattle.std.proofs.Common.{◌≡◌, ℕ, ◌-◌, ◌*◌, ◌<◌, Bool, true, false, cond, T, eqb, ◌↔◌, List, sym, refl, ap, ◌∙◌, subst, inl, inr, arith, eqb→eq}
 use Rattle.families.specs.Families.{Family, count}
 use Rattle.families.proofs.Tests.{eq→eqb}
-use Rattle.formulas.specs.Tables.{as_formula, expression_at, formula_at, Names, Binds, Under, itself}
+use Rattle.formulas.specs.Tables.{as_formula, expression_at, formula_at, Names, Binds}
 use Rattle.formulas.specs.Trees.{Formula, Odd, occurs}
 use Rattle.formulas.specs.Sound.{Sound}
 use Rattle.formulas.specs.declared.Expr.{Expr}
 use Rattle.formulas.specs.declared.Node.{Node}
 use Rattle.formulas.specs.declared.Node.TheVariants as nd
-use Rattle.formulas.proofs.Trees.{under_le}
 use Rattle.semantics.specs.Plain.{Env, put}
-use Rattle.semantics.specs.Meaning.{Pairs, Means, Within, Same}
+use Rattle.semantics.specs.Meaning.{Pairs, Means, Same}
 use Rattle.semantics.specs.Entries.{Parts, Filled}
 use Rattle.semantics.proofs.Finite.{total, total_le}
 use Rattle.semantics.proofs.Iteration.{Low, High, Backed, Closed, low_none, high_none, backed_none, closed_all}
 use Rattle.semantics.proofs.Rounds.{rising_next, rising_within, rising_more, rising_last, falling_next, falling_within, falling_more, falling_last}
 use Rattle.checker.specs.declared.rows.Rule.{Rule}
-use Rattle.checker.specs.declared.rows.Rule.TheVariants.{Nothing, Everything}
 use Rattle.checker.specs.Rules.{ruled}
 use Rattle.checker.specs.Gathered.{entry, Everyone}
-use Rattle.checker.specs.Walks.{rows, OnlyRow, Framed, OnlyProducts, Above, FixpointsAbove, Walked, Starts}
+use Rattle.checker.specs.Walks.{OnlyProducts, FixpointsAbove, Walked, Starts}
 use Rattle.checker.proofs.Collecting.{from_true, binds_one}
-use Rattle.checker.proofs.Stages.{R, to_part, same_by}
+use Rattle.checker.proofs.Stages.{R, to_part}
 
 -- What lasts from round to round, for a fixpoint x over the part c.
 abbrev pub Round : Family → List Expr → List Node → Env Pairs → ℕ → Node → Pairs → Type 0

@@ -1,5 +1,5 @@
 -- The stages of a walk at one entry: what each leaves unchanged, and that the rows hold what they should after it.
-use Rattle.std.proofs.Common.{◌≡◌, ℕ, ◌+◌, ◌*◌, ◌<◌, ◌≤◌, Bool, true, false, not, ◌&&◌, ◌||◌, T, ◌⊎◌, ◌↔◌, List, length, get_or, sym, refl, ap, ◌∙◌, subst, inl, inr, arith}
+use Rattle.std.proofs.Common.{◌≡◌, ℕ, ◌+◌, ◌*◌, ◌<◌, ◌≤◌, Bool, false, not, ◌&&◌, ◌||◌, T, ◌⊎◌, ◌↔◌, List, length, get_or, sym, refl, ap, ◌∙◌, subst, inl, inr, arith}
 use Rattle.std.proofs.lemmas.Bool.{cases_eq, cases_order}
 use Rattle.std.proofs.lemmas.List.{get_or_past}
 use Rattle.families.specs.Families.{Family, count, config}
@@ -11,7 +11,7 @@ use Rattle.formulas.specs.declared.Expr.{Expr}
 use Rattle.formulas.specs.declared.Node.{Node}
 use Rattle.formulas.specs.declared.Node.TheVariants as nd
 use Rattle.formulas.proofs.Trees.{under_le, under_part, under_top, parts_apart}
-use Rattle.semantics.specs.Plain.{Env, put}
+use Rattle.semantics.specs.Plain.{Env}
 use Rattle.semantics.specs.Satisfies.{satisfies}
 use Rattle.semantics.specs.Meaning.{Pairs, Means, Same}
 use Rattle.semantics.specs.Entries.{Parts, Filled}

@@ -1,5 +1,5 @@
 -- How one cell of a row is made, at one place, from the cells of two other rows.
-use Rattle.std.specs.Prelude.{Bool, true, false, not, ◌&&◌, ◌||◌}
+use Rattle.std.specs.Prelude.{Bool, false, not, ◌&&◌, ◌||◌}
 use Rattle.checker.specs.declared.rows.Rule.{Rule}
 use Rattle.checker.specs.declared.rows.Rule.TheVariants.{Nothing, Everything, Copied, Rest, Join, Meet, RestOfMeet}
 

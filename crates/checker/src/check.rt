@@ -22,7 +22,7 @@ const TOO_FEW_CELLS: u8 = 18;
 impl FamilyView<'_> {
     // How many products are in a set.
     fn count_in<K: Kind>(&self, set: K::Set, kind: &K) -> usize
-        ensures { result ≡ how_many (length self.now.products.now) (means kind.now set) }
+        ensures { result ≡ how_many (length self.now.products.now) (K.means kind.now set) }
     {
         let mut count = 0;
         for p in 0..self.products.len() {
@@ -36,11 +36,11 @@ impl FamilyView<'_> {
     // Gathers the sets, and fills the rows of all entries.
     fn fill<K: Kind>(&self, exprs: &[Expr], nodes: &[Node], kind: &mut K, cells: &mut [K::Set])
         requires sound { Sound exprs.now nodes.now }
-        requires fits { (length self.now.products.now ≤ places) × (length nodes.now * self.now.states ≤ length cells.old) }
-        ensures kept { (s : K.Set) (p : ℕ) → means kind.new s p ≡ means kind.old s p }
+        requires fits { (length self.now.products.now ≤ K.places) × (length nodes.now * self.now.states ≤ length cells.old) }
+        ensures kept { (s : K.Set) (p : ℕ) → K.means kind.new s p ≡ K.means kind.old s p }
         ensures beyond { (i : ℕ) (d : K.Set) → length nodes.now * self.now.states ≤ i → slice_index_or cells.new i d ≡ slice_index_or cells.old i d }
-        ensures products { (d : K.Set) (n : ℕ) → n < length nodes.now → OnlyProducts (family_of self.now) (row_of (means kind.new) self.now.states cells.new d n) }
-        ensures filled { (d : K.Set) → Filled (family_of self.now) exprs.now nodes.now (row_of (means kind.new) self.now.states cells.new d) no_pairs (last nodes.now) }
+        ensures products { (d : K.Set) (n : ℕ) → n < length nodes.now → OnlyProducts (family_of self.now) (row_of (K.means kind.new) self.now.states cells.new d n) }
+        ensures filled { (d : K.Set) → Filled (family_of self.now) exprs.now nodes.now (row_of (K.means kind.new) self.now.states cells.new d) no_pairs (last nodes.now) }
     {
         let all = first(kind, self.products.len());
         let conditions = self.conditions(all, kind);
@@ -64,13 +64,13 @@ impl FamilyView<'_> {
         kind: &mut K,
         cells: &mut [K::Set],
     ) -> (u8, usize)
-        ensures answer { (d : K.Set) → Answered (family_of self.now) exprs.now nodes.now places (length cells.old) (means kind.new (slice_index_or cells.new (last nodes.now * self.now.states) d)) result.0 result.1 }
+        ensures answer { (d : K.Set) → Answered (family_of self.now) exprs.now nodes.now K.places (length cells.old) (K.means kind.new (slice_index_or cells.new (last nodes.now * self.now.states) d)) result.0 result.1 }
         ensures refused { (result.0 ≢ 0) → (kind.new ≡ kind.old) × (cells.new ≡ cells.old) }
         ensures room { result.0 ≡ 0 → length nodes.now * self.now.states ≤ length cells.old }
-        ensures filled { result.0 ≡ 0 → (d : K.Set) → Filled (family_of self.now) exprs.now nodes.now (row_of (means kind.new) self.now.states cells.new d) no_pairs (last nodes.now) }
-        ensures products { result.0 ≡ 0 → (d : K.Set) (n : ℕ) → n < length nodes.now → OnlyProducts (family_of self.now) (row_of (means kind.new) self.now.states cells.new d n) }
+        ensures filled { result.0 ≡ 0 → (d : K.Set) → Filled (family_of self.now) exprs.now nodes.now (row_of (K.means kind.new) self.now.states cells.new d) no_pairs (last nodes.now) }
+        ensures products { result.0 ≡ 0 → (d : K.Set) (n : ℕ) → n < length nodes.now → OnlyProducts (family_of self.now) (row_of (K.means kind.new) self.now.states cells.new d n) }
         ensures beyond { result.0 ≡ 0 → (i : ℕ) (d : K.Set) → length nodes.now * self.now.states ≤ i → slice_index_or cells.new i d ≡ slice_index_or cells.old i d }
-        ensures kept { (s : K.Set) (p : ℕ) → means kind.new s p ≡ means kind.old s p }
+        ensures kept { (s : K.Set) (p : ℕ) → K.means kind.new s p ≡ K.means kind.old s p }
     {
         let (number, place) = judge(exprs, nodes);
         if number != ACCEPTED {

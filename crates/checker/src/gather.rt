@@ -25,9 +25,9 @@ pub(crate) struct Gathered<'a, S> {
 impl FamilyView<'_> {
     // The products that meet a transition's condition.
     fn meeting<K: Kind>(&self, transition: &Transition, kind: &mut K) -> K::Set
-        requires fits { length self.now.products.now ≤ places }
-        ensures value { Collects (means kind.old) (family_of self.now) result (λ p. Meets (config (family_of self.now) p) transition.now) }
-        ensures kept { (s : K.Set) (p : ℕ) → means kind.new s p ≡ means kind.old s p }
+        requires fits { length self.now.products.now ≤ K.places }
+        ensures value { Collects (K.means kind.old) (family_of self.now) result (λ p. Meets (config (family_of self.now) p) transition.now) }
+        ensures kept { (s : K.Set) (p : ℕ) → K.means kind.new s p ≡ K.means kind.old s p }
     {
         let mut set = kind.none();
         for p in 0..self.products.len() {
@@ -40,9 +40,9 @@ impl FamilyView<'_> {
 
     // The products that have a feature.
     fn featuring<K: Kind>(&self, feature: u8, kind: &mut K) -> K::Set
-        requires fits { (length self.now.products.now ≤ places) × (feature ≤ 15) }
-        ensures value { Collects (means kind.old) (family_of self.now) result (λ p. T (bit (config (family_of self.now) p) feature)) }
-        ensures kept { (s : K.Set) (p : ℕ) → means kind.new s p ≡ means kind.old s p }
+        requires fits { (length self.now.products.now ≤ K.places) × (feature ≤ 15) }
+        ensures value { Collects (K.means kind.old) (family_of self.now) result (λ p. T (bit (config (family_of self.now) p) feature)) }
+        ensures kept { (s : K.Set) (p : ℕ) → K.means kind.new s p ≡ K.means kind.old s p }
     {
         let mut set = kind.none();
         for p in 0..self.products.len() {
@@ -55,9 +55,9 @@ impl FamilyView<'_> {
 
     // For each transition the products that meet its condition.
     pub(crate) fn conditions<K: Kind>(&self, filler: K::Set, kind: &mut K) -> [K::Set; 256]
-        requires fits { length self.now.products.now ≤ places }
-        ensures value { Meeting (means kind.old) (family_of self.now) result filler }
-        ensures kept { (s : K.Set) (p : ℕ) → means kind.new s p ≡ means kind.old s p }
+        requires fits { length self.now.products.now ≤ K.places }
+        ensures value { Meeting (K.means kind.old) (family_of self.now) result filler }
+        ensures kept { (s : K.Set) (p : ℕ) → K.means kind.new s p ≡ K.means kind.old s p }
     {
         let mut sets = [filler; 256];
         for i in 0..self.transitions.len() {
@@ -75,12 +75,12 @@ impl FamilyView<'_> {
         sets: &[K::Set],
         kind: &mut K,
     ) -> K::Set
-        requires fits { (length self.now.products.now ≤ places) × (n < length exprs.now) × (length exprs.now ≤ 64) × (length sets.now ≡ 64) }
+        requires fits { (length self.now.products.now ≤ K.places) × (n < length exprs.now) × (length exprs.now ≤ 64) × (length sets.now ≡ 64) }
         requires lower { Lower exprs.now }
-        requires everyone { Everyone (means kind.old) (family_of self.now) all }
-        requires parts { Satisfying (means kind.old) (family_of self.now) exprs.now sets.now all n }
-        ensures value { Collects (means kind.old) (family_of self.now) result (λ p. T (satisfies (config (family_of self.now) p) (expression_at exprs.now n))) }
-        ensures kept { (s : K.Set) (p : ℕ) → means kind.new s p ≡ means kind.old s p }
+        requires everyone { Everyone (K.means kind.old) (family_of self.now) all }
+        requires parts { Satisfying (K.means kind.old) (family_of self.now) exprs.now sets.now all n }
+        ensures value { Collects (K.means kind.old) (family_of self.now) result (λ p. T (satisfies (config (family_of self.now) p) (expression_at exprs.now n))) }
+        ensures kept { (s : K.Set) (p : ℕ) → K.means kind.new s p ≡ K.means kind.old s p }
     {
         match exprs[n] {
             Expr::False => kind.none(),
@@ -99,11 +99,11 @@ impl FamilyView<'_> {
         all: K::Set,
         kind: &mut K,
     ) -> [K::Set; 64]
-        requires fits { (length self.now.products.now ≤ places) × (length exprs.now ≤ 64) }
+        requires fits { (length self.now.products.now ≤ K.places) × (length exprs.now ≤ 64) }
         requires lower { Lower exprs.now }
-        requires everyone { Everyone (means kind.old) (family_of self.now) all }
-        ensures value { Satisfying (means kind.old) (family_of self.now) exprs.now result all (length exprs.now) }
-        ensures kept { (s : K.Set) (p : ℕ) → means kind.new s p ≡ means kind.old s p }
+        requires everyone { Everyone (K.means kind.old) (family_of self.now) all }
+        ensures value { Satisfying (K.means kind.old) (family_of self.now) exprs.now result all (length exprs.now) }
+        ensures kept { (s : K.Set) (p : ℕ) → K.means kind.new s p ≡ K.means kind.old s p }
     {
         let mut sets = [all; 64];
         for n in 0..exprs.len() {

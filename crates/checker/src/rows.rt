@@ -18,16 +18,16 @@ pub(crate) enum Rule {
 
 // The products that are not in the set.
 pub(crate) fn without<K: Kind>(kind: &mut K, all: K::Set, set: K::Set) -> K::Set
-    ensures value { (p : ℕ) → means kind.new result p ≡ ruled Rule.Rest (means kind.old all p) (means kind.old set p) true }
-    ensures kept { (s : K.Set) (p : ℕ) → means kind.new s p ≡ means kind.old s p }
+    ensures value { (p : ℕ) → K.means kind.new result p ≡ ruled Rule.Rest (K.means kind.old all p) (K.means kind.old set p) true }
+    ensures kept { (s : K.Set) (p : ℕ) → K.means kind.new s p ≡ K.means kind.old s p }
 {
     let rest = kind.rest(set);
     kind.meet(all, rest)
 }
 
 fn cell<K: Kind>(kind: &mut K, rule: Rule, all: K::Set, left: K::Set, right: K::Set) -> K::Set
-    ensures value { (p : ℕ) → means kind.new result p ≡ ruled rule (means kind.old all p) (means kind.old left p) (means kind.old right p) }
-    ensures kept { (s : K.Set) (p : ℕ) → means kind.new s p ≡ means kind.old s p }
+    ensures value { (p : ℕ) → K.means kind.new result p ≡ ruled rule (K.means kind.old all p) (K.means kind.old left p) (K.means kind.old right p) }
+    ensures kept { (s : K.Set) (p : ℕ) → K.means kind.new s p ≡ K.means kind.old s p }
 {
     match rule {
         Rule::Nothing => kind.none(),
@@ -53,8 +53,8 @@ pub(crate) fn write_row<K: Kind>(
     right: &[K::Set],
 )
     requires fits { (length row.old ≤ length left.now) × (length row.old ≤ length right.now) }
-    ensures value { (s : ℕ) (x : K.Set) (p : ℕ) → s < length row.old → means kind.old (slice_index_or row.new s x) p ≡ ruled rule (means kind.old all p) (means kind.old (slice_index_or left.now s x) p) (means kind.old (slice_index_or right.now s x) p) }
-    ensures kept { (s : K.Set) (p : ℕ) → means kind.new s p ≡ means kind.old s p }
+    ensures value { (s : ℕ) (x : K.Set) (p : ℕ) → s < length row.old → K.means kind.old (slice_index_or row.new s x) p ≡ ruled rule (K.means kind.old all p) (K.means kind.old (slice_index_or left.now s x) p) (K.means kind.old (slice_index_or right.now s x) p) }
+    ensures kept { (s : K.Set) (p : ℕ) → K.means kind.new s p ≡ K.means kind.old s p }
 {
     for s in 0..row.len() {
         row[s] = cell(kind, rule, all, left[s], right[s]);
@@ -81,8 +81,8 @@ pub(crate) fn taken<K: Kind>(
 // The row of the products that are not in a row.
 pub(crate) fn complement<K: Kind>(kind: &mut K, all: K::Set, row: &[K::Set]) -> [K::Set; 64]
     requires fits { length row.now ≤ 64 }
-    ensures value { (s : ℕ) (x : K.Set) (p : ℕ) → s < length row.now → means kind.old (slice_index_or result s x) p ≡ ruled Rule.Rest (means kind.old all p) (means kind.old (slice_index_or row.now s x) p) true }
-    ensures kept { (s : K.Set) (p : ℕ) → means kind.new s p ≡ means kind.old s p }
+    ensures value { (s : ℕ) (x : K.Set) (p : ℕ) → s < length row.now → K.means kind.old (slice_index_or result s x) p ≡ ruled Rule.Rest (K.means kind.old all p) (K.means kind.old (slice_index_or row.now s x) p) true }
+    ensures kept { (s : K.Set) (p : ℕ) → K.means kind.new s p ≡ K.means kind.old s p }
 {
     let mut rest = [all; 64];
     for s in 0..row.len() {
@@ -100,8 +100,8 @@ pub(crate) fn same_rows<K: Kind>(
     states: usize,
 ) -> bool
     requires fits { (a + states ≤ length cells.now) × (b + states ≤ length cells.now) }
-    ensures sound { result ≡ true → (s : ℕ) (x : K.Set) (p : ℕ) → s < states → means kind.now (slice_index_or cells.now (a + s) x) p ≡ means kind.now (slice_index_or cells.now (b + s) x) p }
-    ensures full { ((s : ℕ) (x : K.Set) (p : ℕ) → s < states → means kind.now (slice_index_or cells.now (a + s) x) p ≡ means kind.now (slice_index_or cells.now (b + s) x) p) → result ≡ true }
+    ensures sound { result ≡ true → (s : ℕ) (x : K.Set) (p : ℕ) → s < states → K.means kind.now (slice_index_or cells.now (a + s) x) p ≡ K.means kind.now (slice_index_or cells.now (b + s) x) p }
+    ensures full { ((s : ℕ) (x : K.Set) (p : ℕ) → s < states → K.means kind.now (slice_index_or cells.now (a + s) x) p ≡ K.means kind.now (slice_index_or cells.now (b + s) x) p) → result ≡ true }
 {
     for s in 0..states {
         if !kind.same(cells[a + s], cells[b + s]) {

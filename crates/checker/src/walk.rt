@@ -14,8 +14,8 @@ use product_sets::Kind;
 
 // A set, and the products that meet a condition and are in the set at the target.
 fn with_led<K: Kind>(kind: &mut K, set: K::Set, condition: K::Set, target: K::Set) -> K::Set
-    ensures value { (p : ℕ) → means kind.old result p ≡ (means kind.old set p || (means kind.old condition p && means kind.old target p)) }
-    ensures kept { (s : K.Set) (p : ℕ) → means kind.new s p ≡ means kind.old s p }
+    ensures value { (p : ℕ) → K.means kind.old result p ≡ (K.means kind.old set p || (K.means kind.old condition p && K.means kind.old target p)) }
+    ensures kept { (s : K.Set) (p : ℕ) → K.means kind.new s p ≡ K.means kind.old s p }
 {
     let led = kind.meet(condition, target);
     kind.join(set, led)
@@ -34,9 +34,9 @@ impl FamilyView<'_> {
         cells: &mut [K::Set],
     )
         requires fits { (n * self.now.states + self.now.states ≤ length cells.old) × (length left.now ≡ 64) × (length right.now ≡ 64) }
-        ensures value { (s p : ℕ) → s < self.now.states → row_of (means kind.old) self.now.states cells.new all n s p ≡ ruled rule (means kind.old all p) (means kind.old (slice_index_or left.now s all) p) (means kind.old (slice_index_or right.now s all) p) }
+        ensures value { (s p : ℕ) → s < self.now.states → row_of (K.means kind.old) self.now.states cells.new all n s p ≡ ruled rule (K.means kind.old all p) (K.means kind.old (slice_index_or left.now s all) p) (K.means kind.old (slice_index_or right.now s all) p) }
         ensures others { OnlyRow self.now.states n cells.old cells.new }
-        ensures kept { (s : K.Set) (p : ℕ) → means kind.new s p ≡ means kind.old s p }
+        ensures kept { (s : K.Set) (p : ℕ) → K.means kind.new s p ≡ K.means kind.old s p }
     {
         let start = n * self.states;
         write_row(
@@ -61,9 +61,9 @@ impl FamilyView<'_> {
         cells: &mut [K::Set],
     )
         requires fits { (n * self.now.states + self.now.states ≤ length cells.old) × (c * self.now.states + self.now.states ≤ length cells.old) × (d * self.now.states + self.now.states ≤ length cells.old) }
-        ensures value { (s p : ℕ) → s < self.now.states → row_of (means kind.old) self.now.states cells.new all n s p ≡ ruled rule (means kind.old all p) (row_of (means kind.old) self.now.states cells.old all c s p) (row_of (means kind.old) self.now.states cells.old all d s p) }
+        ensures value { (s p : ℕ) → s < self.now.states → row_of (K.means kind.old) self.now.states cells.new all n s p ≡ ruled rule (K.means kind.old all p) (row_of (K.means kind.old) self.now.states cells.old all c s p) (row_of (K.means kind.old) self.now.states cells.old all d s p) }
         ensures others { OnlyRow self.now.states n cells.old cells.new }
-        ensures kept { (s : K.Set) (p : ℕ) → means kind.new s p ≡ means kind.old s p }
+        ensures kept { (s : K.Set) (p : ℕ) → K.means kind.new s p ≡ K.means kind.old s p }
     {
         let left = taken::<K>(cells, c * self.states, self.states, all);
         let right = taken::<K>(cells, d * self.states, self.states, all);
@@ -80,8 +80,8 @@ impl FamilyView<'_> {
         kind: &mut K,
     ) -> [K::Set; 64]
         requires fits { (length gathered.now.conditions.now ≡ 256) × (length targets.now ≡ 64) }
-        ensures value { (d : K.Set) → Meeting (means kind.old) (family_of self.now) gathered.now.conditions.now d → (s : ℕ) → s < self.now.states → Collects (means kind.old) (family_of self.now) (slice_index_or result s d) (SomeLeads (family_of self.now) action (λ u. means kind.old (slice_index_or targets.now u d)) s) }
-        ensures kept { (s : K.Set) (p : ℕ) → means kind.new s p ≡ means kind.old s p }
+        ensures value { (d : K.Set) → Meeting (K.means kind.old) (family_of self.now) gathered.now.conditions.now d → (s : ℕ) → s < self.now.states → Collects (K.means kind.old) (family_of self.now) (slice_index_or result s d) (SomeLeads (family_of self.now) action (λ u. K.means kind.old (slice_index_or targets.now u d)) s) }
+        ensures kept { (s : K.Set) (p : ℕ) → K.means kind.new s p ≡ K.means kind.old s p }
     {
         let mut from = [kind.none(); 64];
         for i in 0..self.transitions.len() {
@@ -107,11 +107,11 @@ impl FamilyView<'_> {
         kind: &mut K,
         cells: &mut [K::Set],
     )
-        requires meeting { Meeting (means kind.old) (family_of self.now) gathered.now.conditions.now all }
+        requires meeting { Meeting (K.means kind.old) (family_of self.now) gathered.now.conditions.now all }
         requires fits { (length gathered.now.conditions.now ≡ 256) × (n * self.now.states + self.now.states ≤ length cells.old) × (c * self.now.states + self.now.states ≤ length cells.old) }
-        ensures value { (s p : ℕ) → s < self.now.states → T (row_of (means kind.old) self.now.states cells.new all n s p) ↔ (T (means kind.old chosen p) × ((p < count (family_of self.now)) × SomeLeads (family_of self.now) action (row_of (means kind.old) self.now.states cells.old all c) s p)) }
+        ensures value { (s p : ℕ) → s < self.now.states → T (row_of (K.means kind.old) self.now.states cells.new all n s p) ↔ (T (K.means kind.old chosen p) × ((p < count (family_of self.now)) × SomeLeads (family_of self.now) action (row_of (K.means kind.old) self.now.states cells.old all c) s p)) }
         ensures others { OnlyRow self.now.states n cells.old cells.new }
-        ensures kept { (s : K.Set) (p : ℕ) → means kind.new s p ≡ means kind.old s p }
+        ensures kept { (s : K.Set) (p : ℕ) → K.means kind.new s p ≡ K.means kind.old s p }
     {
         let targets = taken::<K>(cells, c * self.states, self.states, all);
         let from = self.sources(gathered, action, &targets, kind);
@@ -130,12 +130,12 @@ impl FamilyView<'_> {
         kind: &mut K,
         cells: &mut [K::Set],
     )
-        requires meeting { Meeting (means kind.old) (family_of self.now) gathered.now.conditions.now all }
-        requires everyone { Everyone (means kind.old) (family_of self.now) all }
+        requires meeting { Meeting (K.means kind.old) (family_of self.now) gathered.now.conditions.now all }
+        requires everyone { Everyone (K.means kind.old) (family_of self.now) all }
         requires fits { (length gathered.now.conditions.now ≡ 256) × (n * self.now.states + self.now.states ≤ length cells.old) × (c * self.now.states + self.now.states ≤ length cells.old) }
-        ensures value { (s p : ℕ) → s < self.now.states → T (row_of (means kind.old) self.now.states cells.new all n s p) ↔ ((p < count (family_of self.now)) × (T (means kind.old chosen p) → AllLead (family_of self.now) action (row_of (means kind.old) self.now.states cells.old all c) s p)) }
+        ensures value { (s p : ℕ) → s < self.now.states → T (row_of (K.means kind.old) self.now.states cells.new all n s p) ↔ ((p < count (family_of self.now)) × (T (K.means kind.old chosen p) → AllLead (family_of self.now) action (row_of (K.means kind.old) self.now.states cells.old all c) s p)) }
         ensures others { OnlyRow self.now.states n cells.old cells.new }
-        ensures kept { (s : K.Set) (p : ℕ) → means kind.new s p ≡ means kind.old s p }
+        ensures kept { (s : K.Set) (p : ℕ) → K.means kind.new s p ≡ K.means kind.old s p }
     {
         let part = taken::<K>(cells, c * self.states, self.states, all);
         let outside = complement(kind, all, &part);
@@ -157,11 +157,11 @@ impl FamilyView<'_> {
     )
         requires sound { Sound exprs.now nodes.now }
         requires fits { (n < length nodes.now) × (length nodes.now * self.now.states ≤ length cells.old) }
-        requires gathered { Gathers (means kind.old) (family_of self.now) exprs.now nodes.now all gathered.now.conditions.now gathered.now.satisfied.now gathered.now.fixpoints.now }
-        requires begun { FixpointsAbove nodes.now n (λ _ m. OnlyProducts (family_of self.now) (row_of (means kind.old) self.now.states cells.old all m)) }
-        ensures kept { (s : K.Set) (p : ℕ) → means kind.new s p ≡ means kind.old s p }
+        requires gathered { Gathers (K.means kind.old) (family_of self.now) exprs.now nodes.now all gathered.now.conditions.now gathered.now.satisfied.now gathered.now.fixpoints.now }
+        requires begun { FixpointsAbove nodes.now n (λ _ m. OnlyProducts (family_of self.now) (row_of (K.means kind.old) self.now.states cells.old all m)) }
+        ensures kept { (s : K.Set) (p : ℕ) → K.means kind.new s p ≡ K.means kind.old s p }
         ensures framed { Framed nodes.now self.now.states n cells.old cells.new }
-        ensures walked { Walked (family_of self.now) exprs.now nodes.now (row_of (means kind.old) self.now.states cells.old all) (row_of (means kind.old) self.now.states cells.new all) n }
+        ensures walked { Walked (family_of self.now) exprs.now nodes.now (row_of (K.means kind.old) self.now.states cells.old all) (row_of (K.means kind.old) self.now.states cells.new all) n }
     {
         match nodes[n] {
             Node::False => self.combine(Rule::Nothing, all, n, n, n, kind, cells),
@@ -252,11 +252,11 @@ impl FamilyView<'_> {
         requires starts { Starts start c (entry nodes.now n) }
         requires sound { Sound exprs.now nodes.now }
         requires fits { (n < length nodes.now) × (length nodes.now * self.now.states ≤ length cells.old) }
-        requires gathered { Gathers (means kind.old) (family_of self.now) exprs.now nodes.now all gathered.now.conditions.now gathered.now.satisfied.now gathered.now.fixpoints.now }
-        requires begun { FixpointsAbove nodes.now n (λ _ m. OnlyProducts (family_of self.now) (row_of (means kind.old) self.now.states cells.old all m)) }
-        ensures kept { (s : K.Set) (p : ℕ) → means kind.new s p ≡ means kind.old s p }
+        requires gathered { Gathers (K.means kind.old) (family_of self.now) exprs.now nodes.now all gathered.now.conditions.now gathered.now.satisfied.now gathered.now.fixpoints.now }
+        requires begun { FixpointsAbove nodes.now n (λ _ m. OnlyProducts (family_of self.now) (row_of (K.means kind.old) self.now.states cells.old all m)) }
+        ensures kept { (s : K.Set) (p : ℕ) → K.means kind.new s p ≡ K.means kind.old s p }
         ensures framed { Framed nodes.now self.now.states n cells.old cells.new }
-        ensures walked { Walked (family_of self.now) exprs.now nodes.now (row_of (means kind.old) self.now.states cells.old all) (row_of (means kind.old) self.now.states cells.new all) n }
+        ensures walked { Walked (family_of self.now) exprs.now nodes.now (row_of (K.means kind.old) self.now.states cells.old all) (row_of (K.means kind.old) self.now.states cells.new all) n }
     {
         self.combine(start, all, n, n, n, kind, cells);
         'rounds: loop {

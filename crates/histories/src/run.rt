@@ -36,7 +36,7 @@ pub fn run<K: Kind>(
     cells: &mut [K::Set],
 ) -> Result<((u8, usize), ClosedBook), AllocError>
     ensures book { IfOk result (λ x. closed_contents x.1 ≡ left history.entry) }
-    ensures law { IfOk result (λ x. HistoryLaw places (means kind.new) (left history.entry) exprs.now nodes.now (length cells.old) cells.new x.0.0 x.0.1) }
+    ensures law { IfOk result (λ x. HistoryLaw K.places (K.means kind.new) (left history.entry) exprs.now nodes.now (length cells.old) cells.new x.0.0 x.0.1) }
 {
     let book = replay(heap, history, kind, cells)?;
     let answer = book.check(exprs, nodes, kind, cells);

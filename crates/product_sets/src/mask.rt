@@ -1,7 +1,8 @@
 // The mask kind: 64 places, one bit each.
 ghost use Rattle.std.specs.Prelude.{◌&&◌, nat_lt};
 ghost use Rattle.families.specs.Bits.{bit};
-ghost use Rattle.std.proofs.Common.{rules};
+ghost use Rattle.std.proofs.Common.{lit<};
+ghost use Rattle.std.proofs.lemmas.Bool.{le-ltb, and_left};
 
 use crate::kind::Kind;
 
@@ -23,9 +24,9 @@ impl Kind for Mask {
 
     ghost means = { λ _ s p. nat_lt p 64 && bit s.bits p };
 
-    ghost beyond = { Prim.search rules };
+    ghost beyond = { λ _ s p h. and_left (nat_lt p 64) (bit s.bits p) (le-ltb p 64 h) };
 
-    ghost roomy = { Prim.search rules };
+    ghost roomy = { lit< tt };
 
     fn places_count(&self) -> usize {
         PLACES

@@ -2,7 +2,8 @@
 ghost use Rattle.std.specs.Prelude.{◌≡◌, ℕ, ◌<◌, ◌&&◌, ◌==◌, nat_lt};
 ghost use Rattle.product_sets.specs.Turns.{turned};
 ghost use Rattle.product_sets.specs.Combined.{combined};
-ghost use Rattle.std.proofs.Common.{rules};
+ghost use Rattle.std.proofs.Common.{lit<};
+ghost use Rattle.std.proofs.lemmas.Bool.{le-ltb, and_left};
 
 use crate::kind::Kind;
 use crate::turns::{PLACES, RangeSet};
@@ -68,9 +69,9 @@ impl Kind for Range {
 
     ghost means = { λ _ s p. nat_lt p 200 && turned s.turns s.count p };
 
-    ghost beyond = { Prim.search rules };
+    ghost beyond = { λ _ s p h. and_left (nat_lt p 200) (turned s.turns s.count p) (le-ltb p 200 h) };
 
-    ghost roomy = { Prim.search rules };
+    ghost roomy = { lit< tt };
 
     fn places_count(&self) -> usize {
         PLACES

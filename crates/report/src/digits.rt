@@ -20,7 +20,7 @@ impl Digits {
     pub(crate) fn of<K: Kind>(kind: &K, set: K::Set, count: usize) -> Digits
         requires { count ≤ 64 }
         ensures count { result.count ≡ count }
-        ensures each { (p : ℕ) → p < count → slice_index_or result.holds p false ≡ means kind.now set p }
+        ensures each { (p : ℕ) → p < count → slice_index_or result.holds p false ≡ K.means kind.now set p }
     {
         let mut holds = [false; MAX_DIGITS];
         for place in 0..count {

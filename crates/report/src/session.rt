@@ -88,7 +88,7 @@ impl Session {
         kind: &mut K,
         cells: &mut [K::Set],
     ) -> Verdict
-        requires { (places ≡ 64) × (4096 ≤ length cells.old) }
+        requires { (K.places ≡ 64) × (4096 ≤ length cells.old) }
         ensures { Checked (family_of self.now) exprs.now nodes.now (formula_at exprs.now nodes.now (last nodes.now)) (outcome_of result) }
     {
         let (refusal, value) = self.book.check(exprs, nodes, kind, cells);

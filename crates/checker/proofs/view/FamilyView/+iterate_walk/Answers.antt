@@ -1,4 +1,4 @@
-use Rattle.std.proofs.Common.{◌≡◌, ℕ, ◌+◌, ◌-◌, ◌*◌, ◌<◌, ◌≤◌, Bool, true, false, not, ◌&&◌, ◌||◌, T, ◌↔◌, length, get_or, sym, refl, ap, ◌∙◌, subst, inl, inr, arith}
+use Rattle.std.proofs.Common.{◌≡◌, ℕ, ◌+◌, ◌*◌, ◌<◌, ◌≤◌, not, ◌&&◌, ◌||◌, T, ◌↔◌, length, get_or, sym, refl, ap, ◌∙◌, subst, inl, inr, arith}
 use Rattle.std.proofs.lemmas.Nat.{mul-le}
 use Rattle.std.proofs.lemmas.List.{get_or_default}
 use Rattle.std.proofs.lemmas.Bool.{both_ways}
@@ -6,22 +6,20 @@ use Rattle.families.specs.Families.{count, config}
 use Rattle.formulas.specs.Tables.{as_formula, expression_at, formula_at, Names, Binds, Under, itself}
 use Rattle.formulas.specs.Sound.{Carries}
 use Rattle.formulas.specs.declared.Node.{Node}
-use Rattle.formulas.specs.declared.Node.TheVariants as nd
 use Rattle.formulas.proofs.Trees.{under_le}
 use Rattle.formulas.proofs.Scope.{even_part}
 use Rattle.semantics.specs.Plain.{Env, put}
 use Rattle.semantics.specs.Satisfies.{satisfies}
-use Rattle.semantics.specs.Meaning.{Pairs, Means, Same}
+use Rattle.semantics.specs.Meaning.{Pairs, Same}
 use Rattle.semantics.specs.Entries.{Filled}
 use Rattle.semantics.proofs.Rows.{means_same, same_refl}
 use Rattle.checker.specs.Rules.{ruled}
-use Rattle.checker.specs.declared.rows.Rule.TheVariants as rule
 use Rattle.checker.specs.Gathered.{family_of, entry, Everyone, Meeting, Collects, Gathers}
-use Rattle.checker.specs.Walks.{rows, OnlyRow, Framed, SomeLeads, AllLead, OnlyProducts, FixpointsAbove, Walked}
+use Rattle.checker.specs.Walks.{rows, SomeLeads, AllLead, OnlyProducts, FixpointsAbove, Walked}
 use Rattle.checker.proofs.Places.{row_fits, offset_fits}
 use Rattle.checker.proofs.Collecting.{one_reading}
-use Rattle.checker.proofs.Stages.{R, same_by, framed_row, framed_then, framed_none, framed_part, to_part, only_after, stands_after, fixpoint_above, walked, walked_false, walked_true, walked_variable, walked_not, walked_or, walked_and, walked_diamond, walked_box}
-use Rattle.checker.proofs.Rounding.{Round, rank, rows_equal, start_products, round_first, round_next, round_less, round_last, fixpoint_parts, fixpoint_names, part_filled}
+use Rattle.checker.proofs.Stages.{same_by, framed_row, framed_then, framed_none, framed_part, to_part, only_after, stands_after, fixpoint_above, walked, walked_false, walked_true, walked_variable, walked_not, walked_or, walked_and, walked_diamond, walked_box}
+use Rattle.checker.proofs.Rounding.{rows_equal, start_products, round_first, round_next, round_less, round_last, fixpoint_parts, fixpoint_names, part_filled}
 use Rattle.checker.proofs.view.FamilyView.+iterate_walk.Goals as goal
 
 pub walk-combine-requires : goal.walk-combine-requires
@@ -633,8 +631,8 @@ iterate-rounds-init g t c =
       λ η h. round_first F es ns η c.args.start c.args.c ((g.K.Kind.means c.combine.new.kind) all) every (rows (g.K.Kind.means c.combine.new.kind) S c.combine.new.cells all n) _ _ x c.requires.starts first,
     )
 
-pub iterate_walk-requires : goal.iterate_walk-requires
-iterate_walk-requires g t c κs within =
+pub iterate-walk-requires : goal.iterate-walk-requires
+iterate-walk-requires g t c κs within =
     let F = family_of c.args.self.now in
     let S = c.args.self.now.states in
     let ns = c.args.nodes.now in

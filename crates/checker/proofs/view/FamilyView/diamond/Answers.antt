@@ -1,7 +1,7 @@
-use Rattle.std.proofs.Common.{◌≡◌, ℕ, ◌+◌, ◌-◌, ◌*◌, ◌/◌, ◌^◌, ◌<◌, ◌≤◌, Bool, true, false, not, ◌&&◌, ◌||◌, T, ◌↔◌, length, get_or, take, drop, set, sym, refl, ap, ◌∙◌, subst, inl, inr, arith, rules}
+use Rattle.std.proofs.Common.{◌≡◌, ℕ, ◌+◌, ◌*◌, ◌<◌, Bool, ◌&&◌, T, get_or, sym, ap, ◌∙◌, subst, arith, rules}
 use Rattle.std.proofs.lemmas.List.{get_or-replicate}
 use Rattle.families.proofs.Tests.{and_split, and_both}
-use Rattle.checker.specs.Gathered.{family_of, Meeting}
+use Rattle.checker.specs.Gathered.{family_of}
 use Rattle.checker.proofs.Leading.{some_same}
 use Rattle.checker.proofs.view.FamilyView.diamond.Goals as goal
 

@@ -1,10 +1,9 @@
-use Rattle.std.proofs.Common.{◌≡◌, ℕ, ◌+◌, ◌-◌, ◌*◌, ◌/◌, ◌^◌, ◌<◌, ◌≤◌, Bool, true, false, not, ◌&&◌, ◌||◌, T, ◌↔◌, length, get_or, take, drop, set, sym, refl, ap, ◌∙◌, subst, inl, inr, arith, eqb→eq}
-use Rattle.std.proofs.lemmas.Bool.{both_ways}
+use Rattle.std.proofs.Common.{◌≡◌, ℕ, ◌+◌, ◌/◌, ◌^◌, ◌<◌, T, ◌↔◌, length, get_or, sym, ap, ◌∙◌, subst, arith, eqb→eq}
 use Rattle.families.specs.Bits.{bit}
 use Rattle.families.proofs.Bits.{bit_shift}
 use lib.Bits.{bit_and}
 use Rattle.families.proofs.Tests.{eq→eqb}
-use Rattle.checker.proofs.Collecting.{is_true, from_true, grown, not_grown, same_set}
+use Rattle.checker.proofs.Collecting.{grown, not_grown, same_set}
 use Rattle.checker.proofs.view.FamilyView.featuring.Goals.{then-self-p-eq1, else-self-p-eq1}
 use Rattle.checker.proofs.view.FamilyView.featuring.Goals as goal
 

@@ -1,13 +1,11 @@
-use Rattle.std.proofs.Common.{◌≡◌, ℕ, suc, ◌+◌, ◌-◌, ◌*◌, ◌<◌, ◌≤◌, Bool, true, false, cond, ◌&&◌, T, ◌↔◌, length, get_or, sym, refl, ap, ◌∙◌, subst, arith, rules}
+use Rattle.std.proofs.Common.{◌≡◌, ℕ, ◌+◌, ◌*◌, ◌<◌, T, length, get_or, sym, ap, ◌∙◌, subst, arith, rules}
 use Rattle.std.proofs.lemmas.List.{get_or_default}
-use Rattle.families.specs.Families.{count}
-use Rattle.formulas.specs.Tables.{Under, last}
+use Rattle.formulas.specs.Tables.{last}
 use Rattle.formulas.proofs.Trees.{under_le}
-use Rattle.semantics.specs.Meaning.{Pairs, Same}
-use Rattle.semantics.specs.Entries.{Filled, no_pairs}
+use Rattle.semantics.specs.Entries.{no_pairs}
 use Rattle.semantics.proofs.Rows.{filled_same, same_refl}
-use Rattle.checker.specs.Gathered.{family_of, Everyone, Meeting, Satisfying, Gathers}
-use Rattle.checker.specs.Walks.{rows, OnlyProducts, Walked}
+use Rattle.checker.specs.Gathered.{family_of, Everyone, Meeting, Satisfying}
+use Rattle.checker.specs.Walks.{rows}
 use Rattle.checker.proofs.Places.{row_fits}
 use Rattle.checker.proofs.Collecting.{one_reading, first_places}
 use Rattle.checker.proofs.Stages.{same_by, nothing_above}

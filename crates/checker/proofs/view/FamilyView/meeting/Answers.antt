@@ -1,7 +1,6 @@
-use Rattle.std.proofs.Common.{◌≡◌, ℕ, ◌+◌, ◌-◌, ◌*◌, ◌/◌, ◌^◌, ◌<◌, ◌≤◌, Bool, true, false, not, ◌&&◌, ◌||◌, T, ◌↔◌, length, get_or, take, drop, set, sym, refl, ap, ◌∙◌, subst, inl, inr, arith, eqb→eq}
+use Rattle.std.proofs.Common.{◌≡◌, ℕ, ◌+◌, ◌<◌, T, ◌↔◌, length, get_or, sym, ap, ◌∙◌, subst, arith}
 use Rattle.std.proofs.lemmas.Bool.{both_ways}
 use Rattle.families.specs.Families.{Meets}
-use Rattle.families.proofs.Tests.{eq→eqb}
 use Rattle.checker.proofs.Collecting.{is_true, from_true, grown, not_grown, same_set}
 use Rattle.checker.proofs.view.FamilyView.meeting.Goals.{then-met_by, else-met_by}
 use Rattle.checker.proofs.view.FamilyView.meeting.Goals as goal

@@ -1,13 +1,12 @@
-use Rattle.std.proofs.Common.{◌≡◌, ℕ, ◌+◌, ◌-◌, ◌*◌, ◌/◌, ◌^◌, ◌<◌, ◌≤◌, Bool, true, false, not, ◌&&◌, ◌||◌, T, ◌↔◌, length, get_or, take, drop, set, sym, refl, ap, ◌∙◌, subst, inl, inr, arith}
+use Rattle.std.proofs.Common.{ℕ, ◌<◌, Bool, T, sym, refl, ◌∙◌, subst, inl, inr, arith}
 use Rattle.std.proofs.lemmas.List.{get_or_read}
 use Rattle.families.specs.Families.{config}
-use Rattle.families.specs.Bits.{bit}
 use Rattle.formulas.specs.Tables.{PartOf, expression_at}
 use Rattle.formulas.specs.declared.Expr.{Expr}
 use Rattle.formulas.specs.declared.Expr.TheVariants as ex
 use Rattle.semantics.specs.Satisfies.{satisfies}
 use Rattle.checker.specs.Gathered.{family_of, Collects}
-use Rattle.checker.proofs.Collecting.{one_reading, expressed, collects_none, collects_all, collects_not, collects_or, collects_and}
+use Rattle.checker.proofs.Collecting.{expressed, collects_none, collects_all, collects_not, collects_or, collects_and}
 use Rattle.checker.proofs.view.FamilyView.satisfying.Goals as goal
 
 pub featuring-requires : goal.featuring-requires

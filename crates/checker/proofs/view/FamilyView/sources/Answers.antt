@@ -1,11 +1,9 @@
-use Rattle.std.proofs.Common.{◌≡◌, ℕ, ◌+◌, ◌-◌, ◌*◌, ◌/◌, ◌^◌, ◌<◌, ◌≤◌, Bool, true, false, not, ◌&&◌, ◌||◌, T, ◌↔◌, length, get_or, take, drop, set, replicate, sym, refl, ap, ◌∙◌, subst, inl, inr, arith}
+use Rattle.std.proofs.Common.{◌≡◌, ℕ, ◌+◌, ◌<◌, Bool, ◌&&◌, ◌||◌, length, get_or, replicate, sym, refl, ap, ◌∙◌, subst, arith}
 use Rattle.std.proofs.lemmas.List.{get_or_read, get_or-replicate, length-set}
-use Rattle.families.specs.Families.{Owns, Meets, config}
-use Rattle.families.specs.declared.Transition.{Transition}
 use Rattle.checker.specs.Gathered.{family_of, Collects, Meeting}
 use Rattle.checker.specs.Walks.{SomeLeads}
 use Rattle.checker.proofs.Collecting.{nowhere, one_reading}
-use Rattle.checker.proofs.Leading.{within_at, Reached, GatheredTo, none_reached, other_action, same_action, all_reached}
+use Rattle.checker.proofs.Leading.{within_at, GatheredTo, none_reached, other_action, same_action, all_reached}
 use Rattle.checker.proofs.view.FamilyView.sources.Goals.{then-transition-action, else-transition-action}
 use Rattle.checker.proofs.view.FamilyView.sources.Goals as goal
 

@@ -1,22 +1,17 @@
-use Rattle.std.proofs.Common.{◌+◌, ◌<◌, ◌≤◌, not, length, set, refl, ap, ◌∙◌, arith, length-set}
+use Rattle.std.proofs.Common.{◌+◌, ◌<◌, ◌≤◌, length, set, refl, ◌∙◌, arith, length-set}
 use Rattle.product_sets.proofs.Turning.{past_all, odd_more, rising_count, pushed_rising, pushed_capped, pushed_before, differ, agree}
 use Rattle.product_sets.proofs.turns.RangeSet.turn.Goals as goal
 
 pub bounds-self-self : goal.bounds-self-self
 bounds-self-self c = omega (arith, rising_count c.args.self.now.turns c.args.self.now.count c.args.place c.args.self.now.rising c.requires.taken)
 
-pub invariant-of-self : goal.invariant-of-self
-invariant-of-self c =
-    let n : c.args.self.now.count ≤ c.args.place = rising_count c.args.self.now.turns c.args.self.now.count c.args.place c.args.self.now.rising c.requires.taken in (
-      simp length-set (omega arith),
-      (
-        pushed_rising c.args.self.now.turns c.args.self.now.count c.args.place (omega arith) c.args.self.now.rising c.requires.taken,
-        (
-          pushed_capped c.args.self.now.turns c.args.self.now.count c.args.place 200 (omega arith) c.requires.low c.requires.taken,
-          tt,
-        ),
-      ),
-    )
+pub invariant_of-self : goal.invariant_of-self
+invariant_of-self c =
+    let n : c.args.self.now.count ≤ c.args.place = rising_count c.args.self.now.turns c.args.self.now.count c.args.place c.args.self.now.rising c.requires.taken in record {
+      fits = simp length-set (omega arith);
+      rising = pushed_rising c.args.self.now.turns c.args.self.now.count c.args.place (omega arith) c.args.self.now.rising c.requires.taken;
+      capped = pushed_capped c.args.self.now.turns c.args.self.now.count c.args.place 200 (omega arith) c.requires.low c.requires.taken;
+    }
 
 pub returns-then-self-inside : goal.returns-then-self-inside
 returns-then-self-inside c =
