@@ -1,5 +1,5 @@
 -- The rules of the calls on a book, read on its contents: a family. A call answers a number, 0 where it is accepted, and a value.
-use Rattle.std.specs.Prelude.{◌≡◌, ℕ, ◌+◌, ◌≤◌, Bool, true, false, cond, ◌&&◌, List, [], ◌∷◌, ◌++◌, length, ◌==◌, nat_eq, nat_le}
+use Rattle.std.specs.Prelude.{◌≡◌, ℕ, ◌+◌, ◌≤◌, Bool, true, cond, ◌&&◌, List, [], ◌∷◌, ◌++◌, length, ◌==◌, nat_eq, nat_le}
 use Rattle.families.specs.declared.Transition.{Transition}
 use Rattle.families.specs.Families.{Family, transition_within, all_within}
 use Rattle.book.specs.Lists.{held, distinct, without}

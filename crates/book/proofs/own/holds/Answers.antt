@@ -11,12 +11,12 @@ blank = record { source = 0; action = 0; target = 0 }
 
 pub returns-then-same : goal.returns-then-same
 returns-then-same c =
-    sym (held_here same_ends c.args.own_val c.args.list.now c.loop-o.o-index blank (omega arith) (sym c.if-same.ensures))
+    sym (held_here same_ends c.args.own c.args.list.now c.loop-o.o-index blank (omega arith) (sym c.if-same.ensures))
 
 pub loop-o-preserved : goal.loop-o-preserved
 loop-o-preserved c =
-    held_more same_ends c.args.own_val c.args.list.now c.loop-o.o-index blank (omega arith) c.loop-o.invariant (sym c.if-same.ensures)
+    held_more same_ends c.args.own c.args.list.now c.loop-o.o-index blank (omega arith) c.loop-o.invariant (sym c.if-same.ensures)
 
 pub returns : goal.returns
 returns c =
-    sym (ap (held same_ends c.args.own_val) (sym (take_all c.loop-o.o-index c.args.list.now (omega arith))) ∙ c.loop-o.invariant)
+    sym (ap (held same_ends c.args.own) (sym (take_all c.loop-o.o-index c.args.list.now (omega arith))) ∙ c.loop-o.invariant)

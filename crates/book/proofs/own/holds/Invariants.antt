@@ -4,4 +4,4 @@ use Rattle.book.specs.Own.{same_ends}
 use Rattle.book.proofs.own.holds.Given as goal
 
 abbrev pub invariant-loop-o : goal.invariant-loop-o
-invariant-loop-o l = held same_ends l.own_val (take l.o-index l.list) ≡ false
+invariant-loop-o l = held same_ends l.own (take l.o-index l.list) ≡ false

@@ -1,4 +1,4 @@
-use Rattle.std.proofs.Common.{◌≡◌, true, false, List, [], ◌∷◌, ◌++◌, vec_items, sym, ap, ◌∙◌, subst}
+use Rattle.std.proofs.Common.{◌≡◌, false, List, vec_items, sym, ap, ◌∙◌, subst}
 use Rattle.book.specs.declared.own.OwnTransition.{OwnTransition}
 use Rattle.book.specs.Lists.{held}
 use Rattle.book.specs.Own.{Lists, listed, repeated, unmet, ends, same_ends}

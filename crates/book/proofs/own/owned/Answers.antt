@@ -1,4 +1,4 @@
-use Rattle.std.proofs.Common.{ℕ, T, sym, subst, arith}
+use Rattle.std.proofs.Common.{sym, subst, arith}
 use Rattle.std.proofs.lemmas.List.{take_all}
 use Rattle.families.specs.Families.{Owns}
 use Rattle.families.specs.declared.Transition.{Transition}

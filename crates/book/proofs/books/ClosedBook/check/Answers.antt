@@ -1,4 +1,4 @@
-use Rattle.std.proofs.Common.{◌≡◌, ℕ, ◌*◌, ◌≤◌, length, get_or, sym, subst}
+use Rattle.std.proofs.Common.{◌*◌, ◌≤◌, length, get_or, sym, subst}
 use Rattle.families.specs.Families.{Family}
 use Rattle.formulas.specs.Tables.{last}
 use Rattle.semantics.specs.Entries.{Filled, no_pairs}

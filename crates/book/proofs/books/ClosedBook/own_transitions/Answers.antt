@@ -1,10 +1,10 @@
-use Rattle.std.proofs.Common.{◌≡◌, ℕ, ◌<◌, ◌≤◌, List, length, IfOk, vec_items, sym, ap, ◌∙◌, subst, arith, rules}
+use Rattle.std.proofs.Common.{◌≡◌, ℕ, ◌<◌, ◌≤◌, List, IfOk, vec_items, subst, rules}
 use Rattle.std.proofs.lemmas.Bool.Decides.{nat_tests}
 use Rattle.families.specs.declared.Transition.{Transition}
 use Rattle.families.specs.Families.{config, count}
 use Rattle.book.specs.Contents.{closed_contents}
 use Rattle.book.specs.Own.{Listed}
-use Rattle.book.proofs.OwnLists.{made_own, no_product_own}
+use Rattle.book.proofs.ListedOwn.{made_own, no_product_own}
 use Rattle.book.proofs.books.ClosedBook.own_transitions.Goals as goal
 
 pub returns-in-Some : goal.returns-in-Some

@@ -1,9 +1,9 @@
-use Rattle.std.proofs.Common.{◌≡◌, ℕ, ◌/◌, ◌<◌, ◌≤◌, true, false, eqb, length, take, vec_items, vec_len, sym, refl, ap, ◌∙◌, subst, arith, rules}
+use Rattle.std.proofs.Common.{◌≡◌, ◌/◌, true, false, eqb, length, take, vec_items, sym, ap, ◌∙◌, arith}
 use Rattle.std.proofs.lemmas.Bool.Decides.{nat_tests}
 use Rattle.book.specs.Lists.{distinct}
 use Rattle.book.specs.Rules.{same_transition}
 use Rattle.families.specs.Families.{all_within}
-use Rattle.book.specs.Loads.{bad_length, stopped, going, after_records}
+use Rattle.book.specs.Loads.{bad_length, going, after_records}
 use Rattle.book.specs.Contents.{contents}
 use Rattle.book.proofs.Loaded.{grown_entered, ends_there, goes_on, load_ends, load_refused, same_family}
 use Rattle.book.proofs.LoadLaw.{lawful_load}
@@ -18,20 +18,15 @@ invariant_of-self c =
     c.truncate.ensures.items ∙ ap (λ n. take n (vec_items c.enter-number.new.self.products)) np ∙ g.products in
     let ss : vec_items c.truncate-then-number-ne-ACCEPTED.new.self ≡ vec_items c.args.self.now.transitions =
     c.truncate-then-number-ne-ACCEPTED.ensures.items ∙ ap (λ n. take n (vec_items c.enter-number.new.self.transitions)) ns ∙ g.transitions in
-    let st : c.enter-number.new.self.states ≡ c.args.self.now.states = g.states in (
-      (omega arith, omega arith, omega arith, omega arith),
-      (
-        (omega arith, omega arith),
-        (
-          (
-            ap (distinct eqb) ps ∙ c.args.self.now.lawful.0,
-            ap (distinct same_transition) ss ∙ c.args.self.now.lawful.1,
-            ap (λ s. all_within s (vec_items c.truncate-then-number-ne-ACCEPTED.new.self)) st ∙ ap (all_within c.args.self.now.states) ss ∙ c.args.self.now.lawful.2,
-          ),
-          tt,
-        ),
-      ),
-    )
+    let st : c.enter-number.new.self.states ≡ c.args.self.now.states = g.states in record {
+      sized = (omega arith, omega arith, omega arith, omega arith);
+      roomy = (omega arith, omega arith);
+      lawful = (
+        ap (distinct eqb) ps ∙ c.args.self.now.lawful.0,
+        ap (distinct same_transition) ss ∙ c.args.self.now.lawful.1,
+        ap (λ s. all_within s (vec_items c.truncate-then-number-ne-ACCEPTED.new.self)) st ∙ ap (all_within c.args.self.now.states) ss ∙ c.args.self.now.lawful.2,
+      );
+    }
 
 pub returns-then-number-ne-ACCEPTED : goal.returns-then-number-ne-ACCEPTED
 returns-then-number-ne-ACCEPTED c =

@@ -1,4 +1,4 @@
-use Rattle.std.proofs.Common.{◌≡◌, ℕ, ◌<◌, ◌≤◌, true, false, vec_items, vec_len, sym, refl, ap, ◌∙◌, arith, rules}
+use Rattle.std.proofs.Common.{◌≡◌, vec_items, sym, ap, ◌∙◌, arith, rules}
 use Rattle.std.proofs.lemmas.Bool.Decides.{nat_tests}
 use Rattle.book.specs.Lists.{distinct, without}
 use Rattle.book.specs.Rules.{same_transition}
@@ -22,13 +22,11 @@ invariant_of-self c =
     let e : vec_items c.remove-gone.new.self ≡ without same_transition c.args.transition (vec_items c.args.self.now.transitions) =
     c.remove-gone.ensures.items ∙ sym (seen_without c.args.transition c.deref.ensures.value c.place_of-at.ensures (omega arith)) in
     let d = distinct_without same_transition c.args.transition (vec_items c.args.self.now.transitions) c.args.self.now.lawful.1 in
-    let k = within_without c.args.self.now.states c.args.transition (vec_items c.args.self.now.transitions) c.args.self.now.lawful.2 in (
-      (omega arith, omega arith, omega arith, omega arith),
-      (
-        (omega arith, omega arith),
-        ((c.args.self.now.lawful.0, ap (distinct same_transition) e ∙ d, ap (all_within c.args.self.now.states) e ∙ k), tt),
-      ),
-    )
+    let k = within_without c.args.self.now.states c.args.transition (vec_items c.args.self.now.transitions) c.args.self.now.lawful.2 in record {
+      sized = (omega arith, omega arith, omega arith, omega arith);
+      roomy = (omega arith, omega arith);
+      lawful = (c.args.self.now.lawful.0, ap (distinct same_transition) e ∙ d, ap (all_within c.args.self.now.states) e ∙ k);
+    }
 
 pub returns : goal.returns
 returns c =
