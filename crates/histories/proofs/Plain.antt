@@ -1,5 +1,5 @@
 -- From what a check leaves to the history law and the column law.
-use Rattle.std.proofs.Common.{◌≡◌, ℕ, ◌+◌, ◌*◌, ◌<◌, ◌≤◌, Bool, true, false, T, ◌↔◌, List, length, get_or, Option, sym, refl, ap, ◌∙◌, subst, arith}
+use Rattle.std.proofs.Common.{◌≡◌, ℕ, ◌+◌, ◌*◌, ◌<◌, ◌≤◌, Bool, T, ◌↔◌, List, length, get_or, Option, sym, subst, arith}
 use Rattle.families.specs.Families.{Family, count, config}
 use Rattle.families.proofs.Tests.{same_test}
 use Rattle.formulas.specs.Tables.{last, Tree}
@@ -12,7 +12,7 @@ use Rattle.semantics.specs.Laws.{Like}
 use Rattle.semantics.proofs.Entries.{entries_hold, extensional_entries}
 use Rattle.checker.specs.Walks.{rows, OnlyProducts}
 use Rattle.checker.specs.Checks.{Answered, refused_tables, too_many_products, too_few_cells, accepted}
-use Rattle.histories.specs.Columns.{PlainCells, SameColumn}
+use Rattle.histories.specs.Columns.{SameColumn}
 use Rattle.histories.specs.Laws.{HistoryLaw, Comparable, Compares, Comparison}
 
 -- The tables of an accepted check are sound.

@@ -1,5 +1,5 @@
 -- The two laws on histories: what a check at the end of one answers and leaves, and that products that are alike get one column.
-use Rattle.std.specs.Prelude.{◌≡◌, ℕ, ◌*◌, ◌<◌, ◌≤◌, Bool, true, T, ◌↔◌, List, length, Some, None, Option, slice_index_or}
+use Rattle.std.specs.Prelude.{◌≡◌, ℕ, ◌*◌, ◌<◌, ◌≤◌, Bool, T, ◌↔◌, List, length, Some, None, Option, slice_index_or}
 use Rattle.families.specs.Families.{Family, count}
 use Rattle.formulas.specs.Tables.{last}
 use Rattle.formulas.specs.declared.Expr.{Expr}

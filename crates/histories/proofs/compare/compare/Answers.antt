@@ -1,4 +1,4 @@
-use Rattle.std.proofs.Common.{◌≡◌, ℕ, ◌*◌, ◌≤◌, T, ◌↔◌, length, Some, None, sym, ap, ◌∙◌, subst, arith}
+use Rattle.std.proofs.Common.{◌≡◌, ℕ, ◌*◌, T, ◌↔◌, length, Some, None, sym, ap, ◌∙◌, subst, arith}
 use Rattle.families.specs.Families.{Family}
 use Rattle.histories.specs.Columns.{SameColumn}
 use Rattle.histories.specs.Laws.{left, Comparable}

@@ -1,4 +1,4 @@
-use Rattle.std.proofs.Common.{◌+◌, ◌*◌, ◌≤◌, arith, below_more}
+use Rattle.std.proofs.Common.{arith, below_more}
 use Rattle.checker.proofs.Places.{row_below}
 use Rattle.histories.proofs.compare.same_column.Goals as goal
 

@@ -1,6 +1,6 @@
-use Rattle.std.proofs.Common.{◌≡◌, ℕ, ◌*◌, ◌≤◌, length, get_or, sym, subst}
+use Rattle.std.proofs.Common.{ℕ, length, subst}
 use Rattle.families.specs.Families.{Family}
-use Rattle.histories.specs.Laws.{left, HistoryLaw}
+use Rattle.histories.specs.Laws.{HistoryLaw}
 use Rattle.book.specs.Contents.{closed_contents}
 use Rattle.histories.proofs.Plain.{checked_law}
 use Rattle.histories.proofs.run.run.Goals as goal
