@@ -1,5 +1,5 @@
 -- A stack machine that reads a formula token by token and builds its tree. The contracts of the reader's functions say by it where they stop.
-use Rattle.std.specs.Prelude.{◌≡◌, ℕ, Bool, true, false, cond, List, [], ◌∷◌, ◌++◌, ◌==◌}
+use Rattle.std.specs.Prelude.{◌≡◌, ℕ, Bool, false, cond, List, [], ◌∷◌, ◌++◌, ◌==◌}
 use Rattle.grammar.specs.Grammar.{Tok, tok, Level, formula, expression, Modality, diamond, box, Fixpoint, least, greatest, Tree, bottom, top, negation, disjunction, conjunction, feature, var, modal, fixpoint, Ending, free, bound}
 use Rattle.lexer.specs.Tokens.{Sym, name, variable, sign}
 use Rattle.lexer.specs.declared.Sign.{Sign}

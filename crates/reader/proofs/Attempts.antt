@@ -1,12 +1,11 @@
 -- What trying to read a text gives.
-use Rattle.std.proofs.Common.{◌≡◌, ℕ, zero, suc, ◌+◌, ◌-◌, ◌<◌, ◌≤◌, List, [], ◌∷◌, ◌++◌, length, take, replicate, Ok, Err, Result, sym, refl, ap, ◌∙◌, subst, arith}
+use Rattle.std.proofs.Common.{◌≡◌, ℕ, zero, suc, ◌+◌, ◌-◌, ◌≤◌, List, [], ◌∷◌, ◌++◌, length, take, replicate, Ok, Err, Result, sym, ap, ◌∙◌, subst, arith}
 use Rattle.std.proofs.lemmas.List.{take-replicate}
 use Rattle.formulas.specs.declared.Expr.{Expr}
 use Rattle.formulas.specs.declared.Node.{Node}
 use Rattle.formulas.specs.declared.Expr.TheVariants as ex
 use Rattle.formulas.specs.declared.Node.TheVariants as nd
-use Rattle.grammar.specs.Grammar.{Tok, formula, Tree, FormulaOf}
-use Rattle.reader.specs.Numbering.{Tables}
+use Rattle.grammar.specs.Grammar.{Tok, Tree, FormulaOf}
 use Rattle.reader.specs.Reading.{Lexes, Source, filled}
 use Rattle.reader.specs.Outcome.{numbering, Fit, Formed, Tried, no_formula, unknown_name, too_many, accepted, Attempted, Parsed, offends, parsed, Judged}
 use Rattle.reader.specs.declared.Refusal.{Refusal}

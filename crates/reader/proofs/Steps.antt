@@ -1,14 +1,14 @@
 -- What the reader does token by token.
-use Rattle.std.proofs.Common.{◌≡◌, ℕ, ◌+◌, ◌<◌, ◌≤◌, Bool, true, false, cond, List, [], ◌∷◌, ◌++◌, length, sym, refl, ap, ◌∙◌, subst, append_assoc, append-nil, arith}
+use Rattle.std.proofs.Common.{◌≡◌, ℕ, cond, List, [], ◌∷◌, ◌++◌, length, sym, refl, ap, ◌∙◌, subst, append_assoc, arith}
 use Rattle.lexer.specs.Tokens.{Sym, name, variable, sign}
 use Rattle.lexer.specs.Cuts.{cut_at, found, end, bad}
 use Rattle.lexer.specs.declared.Sign.{Sign}
 use Rattle.lexer.specs.declared.Sign.TheVariants.{Mu, Nu, True, False, Not, And, Or, Bar, Less, Greater, LeftBracket, RightBracket, Open, Close, Dot}
-use Rattle.grammar.specs.Grammar.{Tok, tok, Level, formula, expression}
-use Rattle.grammar.specs.Machine.{is, take, stop, after, Part, Inner, sign_of, Item, unit, expect, a_variable, an_action, Next, goes, dead, step, ends, Outcome, good, fail, follow, walk, NotNext}
+use Rattle.grammar.specs.Grammar.{Tok, tok, formula, expression}
+use Rattle.grammar.specs.Machine.{is, take, stop, after, Part, Inner, sign_of, Item, unit, expect, goes, dead, step, ends, fail, follow, walk, NotNext}
 use Rattle.grammar.proofs.Signs.{sign_is, not_sign}
 use Rattle.reader.specs.Numbering.{Tables}
-use Rattle.reader.specs.Reading.{Lexes, at_end, at_token, place_of, Source, State, Stuck}
+use Rattle.reader.specs.Reading.{Lexes, at_end, at_token, Source, State, Stuck}
 use Rattle.reader.specs.declared.Reader.{Reader}
 
 -- ---- the tokens from a place on

@@ -1,9 +1,9 @@
 -- The tokens that the lexer finds are those of the text.
-use Rattle.std.proofs.Common.{◌≡◌, ℕ, ◌+◌, ◌<◌, ◌≤◌, List, [], ◌∷◌, length, take, drop, sym, refl, ap, ◌∙◌, subst, arith, length-drop, length-take}
-use Rattle.lexer.specs.Tokens.{Sym, spell, At, Longest}
-use Rattle.lexer.specs.Cuts.{cut_at, found, end, bad, Lawful}
+use Rattle.std.proofs.Common.{◌≡◌, ℕ, ◌≤◌, List, length, sym, subst}
+use Rattle.lexer.specs.Tokens.{Sym}
+use Rattle.lexer.specs.Cuts.{cut_at, found, Lawful}
 use Rattle.lexer.proofs.Longest.{law, token_within}
-use Rattle.grammar.specs.Grammar.{Tok, tok}
+use Rattle.grammar.specs.Grammar.{Tok}
 use Rattle.reader.specs.Reading.{Lexes, at_end, at_token}
 use Rattle.reader.specs.Texts.{TokensOf, no_more, one_more, NoTokenAt, here, later}
 use Rattle.reader.specs.Outcome.{NoToken, bad_here, bad_later}

@@ -1,12 +1,11 @@
 -- How phrases are put together, in the tokens and in the tables.
-use Rattle.std.proofs.Common.{◌≡◌, ℕ, ◌+◌, ◌<◌, ◌≤◌, List, [], ◌∷◌, ◌++◌, length, Option, sym, refl, ap, ◌∙◌, subst, append_assoc, append-nil}
+use Rattle.std.proofs.Common.{◌≡◌, ℕ, List, [], ◌∷◌, ◌++◌, Option, sym, refl, ap, ◌∙◌, subst, append_assoc, append-nil}
 use Rattle.lexer.specs.Tokens.{Sym, name, variable, sign}
 use Rattle.lexer.specs.Cuts.{cut_at, found}
-use Rattle.lexer.specs.declared.Sign.{Sign}
-use Rattle.lexer.specs.declared.Sign.TheVariants.{True, False, Not, And, Or, Bar, Open, Close, Dot}
+use Rattle.lexer.specs.declared.Sign.TheVariants.{Not, And, Or, Bar, Open, Close, Dot}
 use Rattle.words.specs.Words.{number, WordList, LookedUp}
-use Rattle.grammar.specs.Grammar.{Tok, tok, Level, formula, expression, Modality, diamond, box, Fixpoint, least, greatest, Tree, top, bottom, negation, disjunction, conjunction, feature, var, modal, fixpoint, opening, closing, word, Ending, free, bound, UnitOf, is_true, is_false, is_feature, is_variable, is_not, is_parens, is_modal, is_fixpoint, AndPartOf, one_unit, more_units, PhraseOf, one_part, more_parts}
-use Rattle.grammar.specs.Machine.{Part, a_tree, a_var, a_name, Inner, bar, close, dot, sign_of, inner_of, Item, unit, and_tail, or_tail, expect, a_variable, an_action, make_not, make_both, make_modal, make_fixpoint, whole, walk, NotNext, Stops, Any, Ended}
+use Rattle.grammar.specs.Grammar.{Tok, tok, Level, formula, expression, Modality, diamond, box, Fixpoint, Tree, negation, disjunction, conjunction, feature, modal, fixpoint, opening, closing, word, Ending, free, bound, UnitOf, is_feature, is_not, is_parens, is_modal, is_fixpoint, AndPartOf, one_unit, more_units, PhraseOf, one_part, more_parts}
+use Rattle.grammar.specs.Machine.{Part, a_tree, a_var, a_name, Inner, bar, close, dot, sign_of, inner_of, Item, unit, and_tail, or_tail, expect, a_variable, an_action, make_both, whole, walk, NotNext, Stops, Any, Ended}
 use Rattle.grammar.proofs.Complete.{stops_ended, unit_read, part_read, parts_read, phrase_read}
 use Rattle.grammar.proofs.Sound.{not_bound_and, not_bound_or}
 use Rattle.grammar.proofs.Prefix.{expected}

@@ -1,19 +1,15 @@
 -- A formula that is the whole text.
-use Rattle.std.proofs.Common.{◌≡◌, ℕ, ◌+◌, ◌-◌, ◌<◌, ◌≤◌, List, [], ◌∷◌, ◌++◌, length, take, replicate, Ok, Err, Result, sym, refl, ap, ◌∙◌, subst, append-nil, arith}
-use lib.ListN.{length-replicate}
+use Rattle.std.proofs.Common.{◌≡◌, ℕ, List, [], ◌∷◌, ◌++◌, replicate, Err, Result, sym, refl, ap, ◌∙◌, subst, append-nil, arith}
 use Rattle.std.proofs.lemmas.List.{take-replicate}
 use Rattle.lexer.specs.Tokens.{Sym}
 use Rattle.lexer.specs.Cuts.{cut_at, found, end, bad}
 use Rattle.formulas.specs.declared.Expr.{Expr}
 use Rattle.formulas.specs.declared.Node.{Node}
-use Rattle.formulas.specs.declared.Expr.TheVariants as ex
-use Rattle.formulas.specs.declared.Node.TheVariants as nd
-use Rattle.grammar.specs.Grammar.{Tok, tok, formula, Tree, Ending, PhraseOf, FormulaOf}
+use Rattle.grammar.specs.Grammar.{Tok, tok, formula, PhraseOf}
 use Rattle.grammar.specs.Machine.{whole, walk, fail}
-use Rattle.grammar.specs.Viable.{Offends}
 use Rattle.grammar.proofs.Prefix.{offends}
 use Rattle.reader.specs.Numbering.{Tables, none_entered}
-use Rattle.reader.specs.Reading.{place_of, Source, State, entered, filled}
+use Rattle.reader.specs.Reading.{place_of, Source, State, filled}
 use Rattle.reader.specs.Outcome.{Parsed, Judged, Ready}
 use Rattle.reader.specs.Outcome as oc
 use Rattle.reader.specs.declared.Reader.{Reader}

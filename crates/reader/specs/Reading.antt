@@ -7,8 +7,8 @@ use Rattle.lexer.specs.declared.Sign.TheVariants.{Bar, Dot}
 use Rattle.words.specs.Words.{WordList, number}
 use Rattle.formulas.specs.declared.Expr.TheVariants as ex
 use Rattle.formulas.specs.declared.Node.TheVariants as nd
-use Rattle.grammar.specs.Grammar.{Tok, tok, Level, formula, expression, Modality, closing, Tree, Ending, PhraseOf}
-use Rattle.grammar.specs.Machine.{Part, Inner, bar, dot, sign_of, inner_of, Item, expect, a_variable, an_action, whole, fail, walk, is, NotNext, Ended}
+use Rattle.grammar.specs.Grammar.{Tok, tok, Level, expression, Modality, closing, Tree, Ending, PhraseOf}
+use Rattle.grammar.specs.Machine.{Part, Inner, bar, dot, sign_of, inner_of, Item, expect, a_variable, an_action, whole, fail, walk, NotNext, Ended}
 use Rattle.reader.specs.Numbering.{Tables, note, or_0, last, enter}
 use Rattle.reader.specs.declared.Reader.{Reader}
 

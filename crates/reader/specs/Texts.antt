@@ -1,5 +1,5 @@
 -- The tokens of a text: the longest token counts, and spaces between tokens are skipped.
-use Rattle.std.specs.Prelude.{◌≡◌, ℕ, ◌+◌, ◌<◌, List, [], ◌∷◌, length, ◌≢◌, slice_index}
+use Rattle.std.specs.Prelude.{ℕ, ◌+◌, ◌<◌, List, [], ◌∷◌, length, ◌≢◌, slice_index}
 use Rattle.lexer.specs.Tokens.{Sym, spell, Longest, Bad, Spaces}
 use Rattle.grammar.specs.Grammar.{Tok, tok}
 

@@ -1,5 +1,5 @@
 -- Tables only grow while a tree is entered.
-use Rattle.std.proofs.Common.{◌≡◌, ℕ, ◌+◌, ◌-◌, ◌<◌, ◌≤◌, List, [], ◌∷◌, ◌++◌, length, get_or, Some, None, Option, sym, refl, ap, ◌∙◌, append_assoc, append-nil, arith, length-append}
+use Rattle.std.proofs.Common.{◌≡◌, ℕ, ◌-◌, ◌<◌, ◌≤◌, List, [], ◌∷◌, ◌++◌, length, get_or, Some, None, Option, sym, refl, ap, ◌∙◌, append_assoc, append-nil, arith, length-append}
 use Rattle.std.proofs.lemmas.List.{length_push, get_or_at}
 use Rattle.grammar.specs.Grammar.{Level, formula, expression, Tree, bottom, top, negation, disjunction, conjunction, feature, var, modal, fixpoint}
 use Rattle.reader.specs.Numbering.{Tables, put_node, put_expr, note, put, Shape, enter}

@@ -1,9 +1,9 @@
 -- Tables of an accepted text.
-use Rattle.std.proofs.Common.{◌≡◌, ℕ, suc, ◌+◌, ◌-◌, ◌<◌, ◌≤◌, ◌⊎◌, List, [], ◌∷◌, ◌++◌, length, get_or, take, replicate, Some, None, Option, sym, refl, ap, ◌∙◌, subst, inl, inr, append-nil, arith, length-append}
+use Rattle.std.proofs.Common.{◌≡◌, ℕ, suc, ◌+◌, ◌-◌, ◌<◌, ◌≤◌, ◌⊎◌, List, ◌++◌, length, get_or, take, replicate, Some, None, Option, sym, refl, ◌∙◌, subst, inl, inr, arith}
 use lib.ListN.{length-replicate}
 use Rattle.std.proofs.lemmas.List.{take_at, get_or_append_left, get_or-append_right, get_or-replicate, get_or_past}
 use Rattle.std.proofs.lemmas.Bool.{cases_lt}
-use Rattle.words.specs.Words.{WordList, number}
+use Rattle.words.specs.Words.{number}
 use Rattle.words.proofs.Numbers.{present}
 use Rattle.formulas.specs.declared.Expr.{Expr}
 use Rattle.formulas.specs.declared.Expr.TheVariants as ex
@@ -12,7 +12,7 @@ use Rattle.formulas.specs.declared.Node.TheVariants as nd
 use Rattle.formulas.specs.Tables.{Names}
 use Rattle.formulas.specs.Tables as tb
 use Rattle.grammar.specs.Grammar.{formula, Tree}
-use Rattle.reader.specs.Numbering.{Tables, none_entered, or_0, last}
+use Rattle.reader.specs.Numbering.{none_entered, or_0, last}
 use Rattle.reader.specs.Outcome.{numbering, Formed, Tried, long_text, no_words, no_token, no_formula, unknown_name, too_many, accepted, Reading, short_table, tried}
 use Rattle.reader_laws.specs.Results.{ExprFits, Stands, Structured, TablesHold}
 use Rattle.reader_laws.proofs.Extends.{Extends, same, longer, enter_some}

@@ -1,6 +1,4 @@
 use Rattle.std.proofs.Common.{[], sym}
-use Rattle.lexer.specs.Cuts.{sym_of}
-use Rattle.grammar.specs.Grammar.{tok}
 use Rattle.reader.specs.Outcome.{bad_here, bad_later}
 use Rattle.reader.specs.Reading.{at_end, at_token}
 use Rattle.reader.proofs.first_bad.Goals as goal

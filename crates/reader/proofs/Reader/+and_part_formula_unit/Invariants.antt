@@ -6,8 +6,8 @@ use Rattle.reader.specs.Reading.{Onto}
 use Rattle.reader.proofs.Trees.{Loops}
 use Rattle.reader.proofs.Reader.+and_part_formula_unit.Given as goal
 
-abbrev pub decreases-and-part : goal.decreases-and-part
-decreases-and-part l = 3 * (length l.self.now.text.now - l.self.now.at) + 1
+abbrev pub decreases-and_part : goal.decreases-and_part
+decreases-and_part l = 3 * (length l.self.now.text.now - l.self.now.at) + 1
 
 abbrev pub decreases-formula : goal.decreases-formula
 decreases-formula l = 3 * (length l.self.now.text.now - l.self.now.at) + 2
@@ -15,11 +15,11 @@ decreases-formula l = 3 * (length l.self.now.text.now - l.self.now.at) + 2
 abbrev pub decreases-unit : goal.decreases-unit
 decreases-unit l = 3 * (length l.self.now.text.now - l.self.now.at)
 
-abbrev pub invariant-and-part-loop-on : goal.invariant-and-part-loop-on
-invariant-and-part-loop-on l = Onto l.initial.self l.self × Loops formula (AndPartOf formula) Any l.initial.self l.initial.left l.self l.left
+abbrev pub invariant-and_part-loop-on : goal.invariant-and_part-loop-on
+invariant-and_part-loop-on l = Onto l.initial.self l.self × Loops formula (AndPartOf formula) Any l.initial.self l.initial.left l.self l.left
 
-abbrev pub decreases-and-part-loop-on : goal.decreases-and-part-loop-on
-decreases-and-part-loop-on l = length l.self.text.now - l.self.at
+abbrev pub decreases-and_part-loop-on : goal.decreases-and_part-loop-on
+decreases-and_part-loop-on l = length l.self.text.now - l.self.at
 
 abbrev pub invariant-formula-loop-on : goal.invariant-formula-loop-on
 invariant-formula-loop-on l = Onto l.initial.self l.self × Loops formula (PhraseOf formula) (NotNext And) l.initial.self l.initial.left l.self l.left

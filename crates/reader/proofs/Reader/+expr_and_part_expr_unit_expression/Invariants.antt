@@ -6,20 +6,20 @@ use Rattle.reader.specs.Reading.{Onto}
 use Rattle.reader.proofs.Trees.{Loops}
 use Rattle.reader.proofs.Reader.+expr_and_part_expr_unit_expression.Given as goal
 
-abbrev pub decreases-expr-and-part : goal.decreases-expr-and-part
-decreases-expr-and-part l = 3 * (length l.self.now.text.now - l.self.now.at) + 1
+abbrev pub decreases-expr_and_part : goal.decreases-expr_and_part
+decreases-expr_and_part l = 3 * (length l.self.now.text.now - l.self.now.at) + 1
 
 abbrev pub decreases-expression : goal.decreases-expression
 decreases-expression l = 3 * (length l.self.now.text.now - l.self.now.at) + 2
 
-abbrev pub decreases-expr-unit : goal.decreases-expr-unit
-decreases-expr-unit l = 3 * (length l.self.now.text.now - l.self.now.at)
+abbrev pub decreases-expr_unit : goal.decreases-expr_unit
+decreases-expr_unit l = 3 * (length l.self.now.text.now - l.self.now.at)
 
-abbrev pub invariant-expr-and-part-loop-on : goal.invariant-expr-and-part-loop-on
-invariant-expr-and-part-loop-on l = Onto l.initial.self l.self × Loops expression (AndPartOf expression) Any l.initial.self l.initial.left l.self l.left
+abbrev pub invariant-expr_and_part-loop-on : goal.invariant-expr_and_part-loop-on
+invariant-expr_and_part-loop-on l = Onto l.initial.self l.self × Loops expression (AndPartOf expression) Any l.initial.self l.initial.left l.self l.left
 
-abbrev pub decreases-expr-and-part-loop-on : goal.decreases-expr-and-part-loop-on
-decreases-expr-and-part-loop-on l = length l.self.text.now - l.self.at
+abbrev pub decreases-expr_and_part-loop-on : goal.decreases-expr_and_part-loop-on
+decreases-expr_and_part-loop-on l = length l.self.text.now - l.self.at
 
 abbrev pub invariant-expression-loop-on : goal.invariant-expression-loop-on
 invariant-expression-loop-on l = Onto l.initial.self l.self × Loops expression (PhraseOf expression) (NotNext And) l.initial.self l.initial.left l.self l.left

@@ -21,10 +21,10 @@ returns-in-Name c =
     }
 
 pub returns-in-Variable : goal.returns-in-Variable
-returns-in-Variable c = record { onto = search rules; reads = fails_token an_action c.args.self.now (variable c.in-Variable.-v) c.in-Found.start c.in-Found.on (ap (λ y. found (sym_of y) c.in-Found.start c.in-Found.on) (sym c.in-Variable.is) ∙ c.in-Found.ensures.value) (λ k ps. refl) }
+returns-in-Variable c = record { onto = search rules; reads = fails_token an_action c.args.self.now (variable c.in-Variable._v) c.in-Found.start c.in-Found.on (ap (λ y. found (sym_of y) c.in-Found.start c.in-Found.on) (sym c.in-Variable.is) ∙ c.in-Found.ensures.value) (λ k ps. refl) }
 
 pub returns-in-Sign : goal.returns-in-Sign
-returns-in-Sign c = record { onto = search rules; reads = fails_token an_action c.args.self.now (sign c.in-Sign.-sign) c.in-Found.start c.in-Found.on (ap (λ y. found (sym_of y) c.in-Found.start c.in-Found.on) (sym c.in-Sign.is) ∙ c.in-Found.ensures.value) (λ k ps. refl) }
+returns-in-Sign c = record { onto = search rules; reads = fails_token an_action c.args.self.now (sign c.in-Sign._sign) c.in-Found.start c.in-Found.on (ap (λ y. found (sym_of y) c.in-Found.start c.in-Found.on) (sym c.in-Sign.is) ∙ c.in-Found.ensures.value) (λ k ps. refl) }
 
 pub returns-in-End : goal.returns-in-End
 returns-in-End c = record { onto = search rules; reads = fails_end an_action c.args.self.now c.in-End.place (λ k ps. refl) c.in-End.ensures.value (c.in-End.ensures.onward.1 c.requires.within) }

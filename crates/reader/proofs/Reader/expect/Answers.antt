@@ -21,10 +21,10 @@ returns-else-eq c =
     record { onto = search rules; reads = λ m h. fails_token (expect m) c.args.self.now (sign c.in-Sign.sign) c.in-Found.start c.in-Found.on (ap (λ y. found (sym_of y) c.in-Found.start c.in-Found.on) (sym c.in-Sign.is) ∙ c.in-Found.ensures.value) (expect_stops m (sign c.in-Sign.sign) c.in-Found.start (other_sign c.in-Sign.sign (sign_of m) (λ e. other (e ∙ sym h)))) }
 
 pub returns-in-Name : goal.returns-in-Name
-returns-in-Name c = record { onto = search rules; reads = λ m h. fails_token (expect m) c.args.self.now (name c.in-Name.-name.now) c.in-Found.start c.in-Found.on (ap (λ y. found (sym_of y) c.in-Found.start c.in-Found.on) (sym c.in-Name.is) ∙ c.in-Found.ensures.value) (expect_stops m (name c.in-Name.-name.now) c.in-Found.start (name_no_sign c.in-Name.-name.now (sign_of m))) }
+returns-in-Name c = record { onto = search rules; reads = λ m h. fails_token (expect m) c.args.self.now (name c.in-Name._name.now) c.in-Found.start c.in-Found.on (ap (λ y. found (sym_of y) c.in-Found.start c.in-Found.on) (sym c.in-Name.is) ∙ c.in-Found.ensures.value) (expect_stops m (name c.in-Name._name.now) c.in-Found.start (name_no_sign c.in-Name._name.now (sign_of m))) }
 
 pub returns-in-Variable : goal.returns-in-Variable
-returns-in-Variable c = record { onto = search rules; reads = λ m h. fails_token (expect m) c.args.self.now (variable c.in-Variable.-v) c.in-Found.start c.in-Found.on (ap (λ y. found (sym_of y) c.in-Found.start c.in-Found.on) (sym c.in-Variable.is) ∙ c.in-Found.ensures.value) (expect_stops m (variable c.in-Variable.-v) c.in-Found.start (variable_no_sign c.in-Variable.-v (sign_of m))) }
+returns-in-Variable c = record { onto = search rules; reads = λ m h. fails_token (expect m) c.args.self.now (variable c.in-Variable._v) c.in-Found.start c.in-Found.on (ap (λ y. found (sym_of y) c.in-Found.start c.in-Found.on) (sym c.in-Variable.is) ∙ c.in-Found.ensures.value) (expect_stops m (variable c.in-Variable._v) c.in-Found.start (variable_no_sign c.in-Variable._v (sign_of m))) }
 
 pub returns-in-End : goal.returns-in-End
 returns-in-End c = record { onto = search rules; reads = λ m h. fails_end (expect m) c.args.self.now c.in-End.place (λ k ps. refl) c.in-End.ensures.value (c.in-End.ensures.onward.1 c.requires.within) }

@@ -1,4 +1,4 @@
-use Rattle.std.proofs.Common.{◌≡◌, [], ◌∷◌, ◌++◌, sym, refl, ap, ◌∙◌, rules}
+use Rattle.std.proofs.Common.{[], ◌∷◌, ◌++◌, sym, refl, ap, ◌∙◌, rules}
 use Rattle.std.proofs.lemmas.Result.{err_from_is_err_and}
 use Rattle.lexer.specs.Tokens.{name, sign}
 use Rattle.lexer.specs.declared.Sign.TheVariants.{Bar}
@@ -9,48 +9,48 @@ use Rattle.reader.proofs.Steps.{fails_first, fails_then, goes_then, goes_more}
 use Rattle.reader.proofs.Trees.{goes_action, goes_expect, goes_phrase}
 use Rattle.reader.proofs.Reader.modality.Goals as goal
 
-pub returns-in-err-action : goal.returns-in-err-action
-returns-in-err-action c =
-    let p = err_from_is_err_and c.from-residual.result c.from-residual.ensures.1 in
-    record { onto = search rules; reads = rw (p.1, p.2) (λ m h. fails_first (an_action ∷ []) (expect bar ∷ whole expression (expect (inner_of m) ∷ [])) c.args.self.now _ c.in-err-action.ensures.reads) }
+pub returns-in_err-action : goal.returns-in_err-action
+returns-in_err-action c =
+    let p = err_from_is_err_and c.from_residual.result c.from_residual.ensures.1 in
+    record { onto = search rules; reads = rw (p.1, p.2) (λ m h. fails_first (an_action ∷ []) (expect bar ∷ whole expression (expect (inner_of m) ∷ [])) c.args.self.now _ c.in_err-action.ensures.reads) }
 
-pub returns-in-err-expect : goal.returns-in-err-expect
-returns-in-err-expect c =
-    let p = err_from_is_err_and c.from-residual-in-err-expect.result c.from-residual-in-err-expect.ensures.1 in
+pub returns-in_err-expect : goal.returns-in_err-expect
+returns-in_err-expect c =
+    let p = err_from_is_err_and c.from_residual-in_err-expect.result c.from_residual-in_err-expect.ensures.1 in
     record {
       onto = search rules;
       reads = rw (p.1, p.2) (λ m h.
           fails_then (an_action ∷ expect bar ∷ whole expression (expect (inner_of m) ∷ [])) (expect bar ∷ whole expression (expect (inner_of m) ∷ [])) c.args.self.now c.action.new.self _
-          (goes_more (an_action ∷ []) [] (expect bar ∷ whole expression (expect (inner_of m) ∷ [])) c.args.self.now c.action.new.self (goes_action c.args.self.now c.action.new.self c.in-ok-action.action c.in-ok-action.ensures.reads))
-          (fails_first (expect bar ∷ []) (whole expression (expect (inner_of m) ∷ [])) c.action.new.self _ (c.in-err-expect.ensures.reads bar refl)));
+          (goes_more (an_action ∷ []) [] (expect bar ∷ whole expression (expect (inner_of m) ∷ [])) c.args.self.now c.action.new.self (goes_action c.args.self.now c.action.new.self c.in_ok-action.action c.in_ok-action.ensures.reads))
+          (fails_first (expect bar ∷ []) (whole expression (expect (inner_of m) ∷ [])) c.action.new.self _ (c.in_err-expect.ensures.reads bar refl)));
     }
 
-pub returns-in-err-expr : goal.returns-in-err-expr
-returns-in-err-expr c =
-    let p = err_from_is_err_and c.from-residual-in-err-expr.result c.from-residual-in-err-expr.ensures.1 in
+pub returns-in_err-expr : goal.returns-in_err-expr
+returns-in_err-expr c =
+    let p = err_from_is_err_and c.from_residual-in_err-expr.result c.from_residual-in_err-expr.ensures.1 in
     record {
       onto = search rules;
       reads = rw (p.1, p.2) (λ m h.
           fails_then (an_action ∷ expect bar ∷ whole expression (expect (inner_of m) ∷ [])) (whole expression (expect (inner_of m) ∷ [])) c.args.self.now c.expect.new.self _
           (goes_then (an_action ∷ expect bar ∷ whole expression (expect (inner_of m) ∷ [])) (expect bar ∷ whole expression (expect (inner_of m) ∷ [])) (whole expression (expect (inner_of m) ∷ [])) c.args.self.now c.action.new.self c.expect.new.self
-          (goes_more (an_action ∷ []) [] (expect bar ∷ whole expression (expect (inner_of m) ∷ [])) c.args.self.now c.action.new.self (goes_action c.args.self.now c.action.new.self c.in-ok-action.action c.in-ok-action.ensures.reads))
-          (goes_more (expect bar ∷ []) [] (whole expression (expect (inner_of m) ∷ [])) c.action.new.self c.expect.new.self (goes_expect bar c.action.new.self c.expect.new.self (c.in-ok-expect.ensures.reads bar refl))))
-          (fails_first (whole expression []) (expect (inner_of m) ∷ []) c.expect.new.self _ c.in-err-expr.ensures.reads));
+          (goes_more (an_action ∷ []) [] (expect bar ∷ whole expression (expect (inner_of m) ∷ [])) c.args.self.now c.action.new.self (goes_action c.args.self.now c.action.new.self c.in_ok-action.action c.in_ok-action.ensures.reads))
+          (goes_more (expect bar ∷ []) [] (whole expression (expect (inner_of m) ∷ [])) c.action.new.self c.expect.new.self (goes_expect bar c.action.new.self c.expect.new.self (c.in_ok-expect.ensures.reads bar refl))))
+          (fails_first (whole expression []) (expect (inner_of m) ∷ []) c.expect.new.self _ c.in_err-expr.ensures.reads));
     }
 
-pub returns-in-err-expect-2 : goal.returns-in-err-expect-2
-returns-in-err-expect-2 c =
-    let p = err_from_is_err_and c.from-residual-in-err-expect-2.result c.from-residual-in-err-expect-2.ensures.1 in
+pub returns-in_err-expect-2 : goal.returns-in_err-expect-2
+returns-in_err-expect-2 c =
+    let p = err_from_is_err_and c.from_residual-in_err-expect-2.result c.from_residual-in_err-expect-2.ensures.1 in
     record {
       onto = search rules;
       reads = rw (p.1, p.2) (λ m h.
           fails_then (an_action ∷ expect bar ∷ whole expression (expect (inner_of m) ∷ [])) (expect (inner_of m) ∷ []) c.args.self.now c.expression.new.self _
           (goes_then (an_action ∷ expect bar ∷ whole expression (expect (inner_of m) ∷ [])) (whole expression (expect (inner_of m) ∷ [])) (expect (inner_of m) ∷ []) c.args.self.now c.expect.new.self c.expression.new.self
           (goes_then (an_action ∷ expect bar ∷ whole expression (expect (inner_of m) ∷ [])) (expect bar ∷ whole expression (expect (inner_of m) ∷ [])) (whole expression (expect (inner_of m) ∷ [])) c.args.self.now c.action.new.self c.expect.new.self
-          (goes_more (an_action ∷ []) [] (expect bar ∷ whole expression (expect (inner_of m) ∷ [])) c.args.self.now c.action.new.self (goes_action c.args.self.now c.action.new.self c.in-ok-action.action c.in-ok-action.ensures.reads))
-          (goes_more (expect bar ∷ []) [] (whole expression (expect (inner_of m) ∷ [])) c.action.new.self c.expect.new.self (goes_expect bar c.action.new.self c.expect.new.self (c.in-ok-expect.ensures.reads bar refl))))
-          (goes_more (whole expression []) [] (expect (inner_of m) ∷ []) c.expect.new.self c.expression.new.self (goes_phrase expression c.expect.new.self c.expression.new.self c.in-ok-expr.expr c.in-ok-expr.ensures.reads)))
-          (c.in-err-expect-2.ensures.reads (inner_of m) (h ∙ sym (closing_is m))));
+          (goes_more (an_action ∷ []) [] (expect bar ∷ whole expression (expect (inner_of m) ∷ [])) c.args.self.now c.action.new.self (goes_action c.args.self.now c.action.new.self c.in_ok-action.action c.in_ok-action.ensures.reads))
+          (goes_more (expect bar ∷ []) [] (whole expression (expect (inner_of m) ∷ [])) c.action.new.self c.expect.new.self (goes_expect bar c.action.new.self c.expect.new.self (c.in_ok-expect.ensures.reads bar refl))))
+          (goes_more (whole expression []) [] (expect (inner_of m) ∷ []) c.expect.new.self c.expression.new.self (goes_phrase expression c.expect.new.self c.expression.new.self c.in_ok-expr.expr c.in_ok-expr.ensures.reads)))
+          (c.in_err-expect-2.ensures.reads (inner_of m) (h ∙ sym (closing_is m))));
     }
 
 pub returns : goal.returns
@@ -58,10 +58,10 @@ returns c =
     record {
       onto = search rules;
       reads = λ m h x ts t st.
-          let v = c.in-ok-action.ensures.reads x ts t st in
-          let b = c.in-ok-expect.ensures.reads bar refl x v.2 _ v.4 in
-          let e = c.in-ok-expr.ensures.reads x b.1 _ b.3 in
-          let z = c.in-ok-expect-2.ensures.reads (inner_of m) (h ∙ sym (closing_is m)) x e.rest _ e.state in
+          let v = c.in_ok-action.ensures.reads x ts t st in
+          let b = c.in_ok-expect.ensures.reads bar refl x v.2 _ v.4 in
+          let e = c.in_ok-expr.ensures.reads x b.1 _ b.3 in
+          let z = c.in_ok-expect-2.ensures.reads (inner_of m) (h ∙ sym (closing_is m)) x e.rest _ e.state in
           record {
             action = v.0;
             place = v.1;
