@@ -1,5 +1,5 @@
 -- From what a check answers and leaves to the answer to its tables.
-use Rattle.std.proofs.Common.{◌≡◌, ℕ, ◌+◌, ◌*◌, ◌<◌, ◌≤◌, Bool, false, T, List, [], ◌∷◌, length, get_or, take, sym, refl, ap, ◌∙◌, subst, add-zero, mul-le-mul, arith, length-take, get_or-take}
+use Rattle.std.proofs.Common.{◌≡◌, ℕ, ◌*◌, ◌<◌, ◌≤◌, Bool, false, T, List, [], ◌∷◌, length, get_or, take, sym, refl, ap, ◌∙◌, subst, add-zero, mul-le-mul, arith, length-take, get_or-take}
 use Rattle.families.specs.Families.{Family, count}
 use Rattle.formulas.specs.Tables.{formula_at, last}
 use Rattle.formulas.specs.Trees.{Formula}
@@ -10,7 +10,7 @@ use Rattle.semantics.specs.Entries.{Filled, no_pairs}
 use Rattle.semantics.proofs.Entries.{closed_entries}
 use Rattle.checker.specs.Walks.{rows}
 use Rattle.checker.specs.Checks.{Answered, refused_tables, too_many_products, too_few_cells, accepted}
-use Rattle.report.specs.Answers.{Outcome, digits, refused, Checked, unsound, crowded, answered}
+use Rattle.report.specs.Answers.{digits, refused, Checked, unsound, crowded, answered}
 
 module _ (F : Family) (es : List Expr) (ns : List Node) (small : F.states ≤ 64) (places cells : ℕ) (all : places ≡ 64) where
   -- 64 entries and 64 states have 4,096 cells.

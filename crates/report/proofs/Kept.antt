@@ -1,5 +1,5 @@
 -- What is kept of a line tells what the whole line does.
-use Rattle.std.proofs.Common.{◌≡◌, ℕ, ◌+◌, ◌-◌, ◌<◌, ◌≤◌, ◌⊎◌, List, [], ◌∷◌, ◌++◌, length, take, sym, refl, ap, ◌∙◌, subst, inl, inr, arith, length-append, length-take}
+use Rattle.std.proofs.Common.{◌≡◌, ℕ, ◌<◌, ◌≤◌, ◌⊎◌, List, [], ◌∷◌, ◌++◌, length, sym, refl, ap, ◌∙◌, subst, inl, inr, arith, length-append, length-take}
 use Rattle.std.proofs.lemmas.List.{take_all, take_at}
 use Rattle.std.proofs.lemmas.Bool.{cases_lt}
 use Rattle.families.specs.Families.{Family}
@@ -7,7 +7,7 @@ use Rattle.formulas.specs.declared.Expr.{Expr}
 use Rattle.formulas.specs.declared.Node.{Node}
 use Rattle.reader.specs.Outcome.{Tried, long_text, no_words, no_token, no_formula, unknown_name, too_many, accepted}
 use Rattle.report.specs.Answers.{Outcome, Answer, unread, read}
-use Rattle.report.specs.Lines.{written, Line}
+use Rattle.report.specs.Lines.{Line}
 use Rattle.report.specs.Transcripts.{kept}
 
 -- A text above 1,024 bytes is refused for its length alone.

@@ -1,5 +1,5 @@
 -- From what reading a text gives to the answer to the text.
-use Rattle.std.proofs.Common.{◌≡◌, ℕ, suc, ◌-◌, ◌<◌, ◌≤◌, ◌⊎◌, List, ◌++◌, length, take, replicate, IfOk, Ok, Err, Result, sym, refl, ap, ◌∙◌, subst, inl, inr, arith}
+use Rattle.std.proofs.Common.{◌≡◌, ℕ, suc, ◌-◌, ◌≤◌, List, ◌++◌, length, take, replicate, IfOk, Ok, Err, Result, sym, refl, ◌∙◌, subst, inl, inr, arith}
 use Rattle.std.proofs.lemmas.List.{take_at}
 use Rattle.families.specs.Families.{Family}
 use Rattle.formulas.specs.Trees.{Formula}
@@ -9,11 +9,11 @@ use Rattle.formulas.specs.declared.Expr.TheVariants as ex
 use Rattle.formulas.specs.declared.Node.{Node}
 use Rattle.formulas.specs.declared.Node.TheVariants as nd
 use Rattle.words.specs.Words.{number}
-use Rattle.grammar.specs.Grammar.{formula, Tree}
+use Rattle.grammar.specs.Grammar.{Tree}
 use Rattle.reader.specs.Numbering.{none_entered}
 use Rattle.reader.specs.Outcome.{numbering, Formed, Tried, long_text, no_words, no_token, no_formula, unknown_name, too_many, accepted, Reading, short_table, tried}
 use Rattle.reader_laws.specs.Results.{formula_of}
-use Rattle.reader_laws.proofs.Extends.{Extends, same}
+use Rattle.reader_laws.proofs.Extends.{same}
 use Rattle.reader_laws.proofs.Back.{formula_back}
 use Rattle.report.specs.Answers.{Outcome, Derives, Checked, Answer, read}
 

@@ -1,5 +1,4 @@
-use Rattle.std.proofs.Common.{◌≡◌, ℕ, ◌<◌, false, List, [], ◌∷◌, ◌++◌, get_or, string_bytes, sym, ap, ◌∙◌, subst}
-use Rattle.report.specs.Lines.{digit}
+use Rattle.std.proofs.Common.{ℕ, ◌<◌, false, [], ◌∷◌, ◌++◌, get_or, string_bytes, sym, ap, ◌∙◌, subst}
 use Rattle.report.proofs.Figures.{ascii, one_more, all}
 use Rattle.report.proofs.verdict.digits_line.Goals as goal
 

@@ -1,4 +1,4 @@
-use Rattle.std.proofs.Common.{◌≡◌, ℕ, ◌*◌, ◌<◌, ◌≤◌, length, get_or, sym, refl, ap, ◌∙◌, subst}
+use Rattle.std.proofs.Common.{ℕ, ◌*◌, ◌<◌, ◌≤◌, length, get_or, sym, refl, ap, ◌∙◌, subst}
 use Rattle.formulas.specs.Tables.{last}
 use Rattle.report.specs.Sessions.{family_of}
 use Rattle.report.proofs.Checks.{refusal_at, sound_tables_at, front_answer}

@@ -1,4 +1,4 @@
-use Rattle.std.proofs.Common.{◌≡◌, ◌≤◌, refl, rules}
+use Rattle.std.proofs.Common.{◌≤◌, refl, rules}
 use Rattle.report.specs.Answers.{unread}
 use Rattle.report.specs.Sessions.{family_of, actions_of, features_of}
 use Rattle.report.specs.Verdicts.{outcome_of}

@@ -1,4 +1,4 @@
-use Rattle.std.proofs.Common.{◌≡◌, refl, ◌∙◌}
+use Rattle.std.proofs.Common.{refl, ◌∙◌}
 use Rattle.report.specs.Verdicts.{outcome_of}
 use Rattle.report.proofs.Kept.{whole_line}
 use Rattle.report.proofs.Texts.{made_so}

@@ -1,5 +1,4 @@
-use Rattle.std.proofs.Common.{◌≡◌, [], ◌∷◌, ◌++◌, length, vec_items, sym, refl, ap, ◌∙◌, arith}
-use Rattle.report.specs.Transcripts.{kept}
+use Rattle.std.proofs.Common.{vec_items, refl, ap, ◌∙◌, arith}
 use Rattle.report.proofs.Kept.{one_kept, none_kept}
 use Rattle.report.proofs.transcript.Transcript.feed.Goals as goal
 use Rattle.report.proofs.transcript.Transcript.feed.Goals.{then-len-lt-KEPT, else-len-lt-KEPT}

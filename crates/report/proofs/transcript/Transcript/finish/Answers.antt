@@ -1,4 +1,4 @@
-use Rattle.std.proofs.Common.{◌≡◌, T, eqb, [], vec_items, vec_len, sym, refl, ◌∙◌, subst, arith, eqb→eq}
+use Rattle.std.proofs.Common.{◌≡◌, T, [], vec_items, vec_len, refl, subst, arith, eqb→eq}
 use Rattle.report.proofs.Kept.{no_bytes}
 use Rattle.report.proofs.transcript.Transcript.finish.Goals as goal
 
