@@ -1,5 +1,5 @@
 -- Products that are alike get the same digit.
-use Rattle.std.proofs.Common.{◌≡◌, ℕ, ◌<◌, Bool, false, T, ◌↔◌, List, get_or, sym, refl, subst}
+use Rattle.std.proofs.Common.{ℕ, ◌<◌, Bool, false, ◌↔◌, List, get_or, sym, subst}
 use mathlib.Core.Logic.Iff
 use Rattle.families.specs.Families.{Family, count}
 use Rattle.families.proofs.Tests.{same_test}
@@ -8,7 +8,7 @@ use Rattle.semantics.specs.Entries.{no_pairs, no_states}
 use Rattle.semantics.specs.Laws.{Like}
 use Rattle.semantics.proofs.Projection.{projects}
 use Rattle.semantics.proofs.Extension.{products_alike}
-use Rattle.report.specs.Answers.{Outcome, digits, Has, Digits, Derives, Checked, answered, Answer, read}
+use Rattle.report.specs.Answers.{digits, Has, Digits, Derives, answered, Answer, read}
 use Rattle.report_laws.specs.Laws.{SameDigit}
 use Rattle.report_laws.proofs.Once.{one_formula}
 

@@ -1,5 +1,5 @@
 -- A text has one answer.
-use Rattle.std.proofs.Common.{◌≡◌, ℕ, ◌<◌, ◌≤◌, Bool, false, T, ◌↔◌, List, length, get_or, take, sym, refl, ap, ◌∙◌, subst, arith}
+use Rattle.std.proofs.Common.{◌≡◌, ℕ, ◌<◌, Bool, false, List, length, get_or, take, sym, refl, ap, ◌∙◌, subst, arith}
 use mathlib.Core.Logic.Iff
 use Rattle.std.proofs.lemmas.List.{same_lists, get_or_default}
 use Rattle.families.specs.Families.{Family, count}
@@ -9,12 +9,12 @@ use Rattle.formulas.specs.declared.Expr.{Expr}
 use Rattle.formulas.specs.declared.Node.{Node}
 use Rattle.formulas.proofs.One.{one_judgement, accepts_sound}
 use Rattle.words.specs.Words.{number}
-use Rattle.grammar.specs.Grammar.{FormulaOf, Tree}
+use Rattle.grammar.specs.Grammar.{FormulaOf}
 use Rattle.grammar.proofs.Prefix.{unambiguous}
 use Rattle.reader_laws.specs.Results.{formula_of}
 use Rattle.reader_laws.proofs.Same.{same_tokens}
 use Rattle.reader_laws.proofs.One.{same_names, one}
-use Rattle.report.specs.Answers.{Outcome, digits, refused, Derives, Digits, Checked, unsound, crowded, answered, Answer, unread, read}
+use Rattle.report.specs.Answers.{Outcome, digits, refused, Derives, Digits, Checked, unsound, crowded, answered, unread, read}
 use Rattle.report.specs.Lines.{written}
 use Rattle.report_laws.specs.Laws.{OneOutcome, OneLine}
 

@@ -9,7 +9,7 @@ use Rattle.formulas.proofs.One.{not_both}
 use Rattle.reader.specs.Outcome.{Tried, long_text, no_words, no_token, no_formula, unknown_name, too_many}
 use Rattle.reader.specs.Outcome as outcome
 use Rattle.reader_laws.proofs.Ruled.{rules_kept}
-use Rattle.report.specs.Answers.{Outcome, refused, Checked, unsound, crowded, answered, Answer, unread, read}
+use Rattle.report.specs.Answers.{unsound, crowded, unread, read}
 use Rattle.report.specs.Sessions.{Worded}
 use Rattle.report_laws.specs.Laws.{text_refusals, FewRefusals}
 
