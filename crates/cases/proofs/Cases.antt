@@ -1,6 +1,6 @@
 -- The worked cases, by computing the answers to all of them.
 use Rattle.std.proofs.Common.{◌≡◌, Bool, true, ltb, List, [], ◌∷◌, map, refl, subst}
-use Rattle.std.specs.List.{AllByRecursion as All}
+use Rattle.std.specs.List.{AllByRecursion}
 use Rattle.std.proofs.lemmas.Bool.{and_parts, ltb-true}
 use Rattle.words.specs.Words.{WordList}
 use Rattle.report.specs.Answers.{Outcome, Answer}
@@ -32,7 +32,7 @@ holds c some is =
     (answers c.family (ltb-true 0 c.family.states some) actions features action_names feature_names known_actions known_features c.text)
 
 -- Cases hold if their families have a state and the outcomes that are computed are theirs.
-all_hold : (cs : List Case) → every has_state cs ≡ true → map computed cs ≡ map (λ c. c.outcome) cs → All Holds cs
+all_hold : (cs : List Case) → every has_state cs ≡ true → map computed cs ≡ map (λ c. c.outcome) cs → AllByRecursion Holds cs
 all_hold [] some are = tt
 all_hold (c ∷ cs) some are =
     let s = and_parts (has_state c) (every has_state cs) some in

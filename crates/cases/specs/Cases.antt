@@ -1,7 +1,7 @@
 -- Worked cases: what is answered to texts over a family of four products, from the bytes of its file on.
 use Rattle.std.specs.Prelude.{◌≡◌, ℕ, List, [], ◌∷◌, map, codes, nat_eq}
 use Prim.Native.String.{String}
-use Rattle.std.specs.List.{AllByRecursion as All}
+use Rattle.std.specs.List.{AllByRecursion}
 use Rattle.families.specs.Families.{Family}
 use Rattle.book.specs.Rules.{opened, strike_after}
 use Rattle.book.specs.Loads.{load_answer, load_after}
@@ -90,4 +90,4 @@ abbrev pub Holds : Case → Type 0
 Holds c = Answer c.family actions features c.text c.outcome
 
 abbrev pub CasesHold : ℕ → Type 0
-CasesHold states = All Holds (cases states)
+CasesHold states = AllByRecursion Holds (cases states)

@@ -1,7 +1,7 @@
 -- The token that is found is the longest.
 use Rattle.std.proofs.Common.{◌≡◌, ℕ, zero, suc, ◌+◌, ◌-◌, ◌<◌, ◌≤◌, Bool, true, false, cond, ◌&&◌, eqb, ltb, List, [], ◌∷◌, length, get_or, take, drop, sym, refl, ap, ◌∙◌, subst, inl, inr, arith, length-drop, length-take}
 use Rattle.std.specs.Char.{is_ascii_lowercase, is_ascii_uppercase}
-use Rattle.std.specs.List.{prefix_len, between, AllByRecursion as All}
+use Rattle.std.specs.List.{prefix_len, between, AllByRecursion}
 use Rattle.std.proofs.lemmas.List.{get_or-drop, get_or-take, drop_more, length-take-le}
 use Rattle.std.proofs.lemmas.List.Sums.{prefix_len-le-length}
 use Rattle.std.proofs.lemmas.Bool.{eqb-true, ltb-true, ltb-false, and_parts}
@@ -36,7 +36,7 @@ leading_stops p (x ∷ xs) lt = go (p x) refl lt (λ h. leading_stops p xs h)
     go false e lt f = e
 
 -- bytes that stand at the front and all pass are within the run
-front_leading : (p : ℕ → Bool) (v xs : List ℕ) → take (length v) xs ≡ v → All (λ b. p b ≡ true) v → length v ≤ prefix_len p xs
+front_leading : (p : ℕ → Bool) (v xs : List ℕ) → take (length v) xs ≡ v → AllByRecursion (λ b. p b ≡ true) v → length v ≤ prefix_len p xs
 front_leading p [] xs e h = omega arith
 front_leading p (c ∷ v) [] e h = let z = ap length e in absurd (omega arith)
 front_leading p (c ∷ v) (x ∷ xs) e h =
@@ -45,12 +45,12 @@ front_leading p (c ∷ v) (x ∷ xs) e h =
     let t : p x ≡ true = ap p i ∙ h.0 in
     rw t (omega (arith, front_leading p v xs k h.1))
 
-run_all : (p : ℕ → Bool) (xs : List ℕ) → All (λ b. p b ≡ true) (take (prefix_len p xs) xs)
+run_all : (p : ℕ → Bool) (xs : List ℕ) → AllByRecursion (λ b. p b ≡ true) (take (prefix_len p xs) xs)
 run_all p [] = tt
 run_all p (x ∷ xs) = go (p x) refl (run_all p xs)
   where
-    go : (b : Bool) → p x ≡ b → All (λ b. p b ≡ true) (take (prefix_len p xs) xs) → All (λ b. p b ≡ true) (take (cond b (1 + prefix_len p xs) 0) (x ∷ xs))
-    go true e h = subst (λ n. All (λ b. p b ≡ true) (take n (x ∷ xs))) (one_more (prefix_len p xs)) (e, h)
+    go : (b : Bool) → p x ≡ b → AllByRecursion (λ b. p b ≡ true) (take (prefix_len p xs) xs) → AllByRecursion (λ b. p b ≡ true) (take (cond b (1 + prefix_len p xs) 0) (x ∷ xs))
+    go true e h = subst (λ n. AllByRecursion (λ b. p b ≡ true) (take n (x ∷ xs))) (one_more (prefix_len p xs)) (e, h)
       where
         one_more : (n : ℕ) → suc n ≡ 1 + n
         one_more n = omega arith
@@ -88,7 +88,7 @@ is_in_name : (b : ℕ) → is_ascii_lowercase b ≡ true → in_name b ≡ true
 is_in_name b h = grind (arith, nat_tests)
 
 -- a sign at a small letter is a word
-sign_run : (s : Sign) (b : ℕ) → is_ascii_lowercase b ≡ true → b ≡ get_or (spelling s) 0 0 → All (λ c. in_name c ≡ true) (spelling s)
+sign_run : (s : Sign) (b : ℕ) → is_ascii_lowercase b ≡ true → b ≡ get_or (spelling s) 0 0 → AllByRecursion (λ c. in_name c ≡ true) (spelling s)
 sign_run Mu b h e = (refl, (refl, tt))
 sign_run Nu b h e = (refl, (refl, tt))
 sign_run True b h e = (refl, (refl, (refl, (refl, tt))))

@@ -1,6 +1,6 @@
 -- Runs of bytes, and the four words.
 use Rattle.std.proofs.Common.{◌≡◌, ℕ, ◌+◌, ◌≤◌, Bool, true, false, cond, List, [], ◌∷◌, length, codes, refl, arith}
-use Rattle.std.specs.List.{prefix_len, AllByRecursion as All}
+use Rattle.std.specs.List.{prefix_len, AllByRecursion}
 use Rattle.std.specs.Str.{bytes_eq}
 use Rattle.std.proofs.lemmas.Slice.Eq.{bytes_eq-Decides}
 use Rattle.lexer.specs.Tokens.{Sym, name, sign, NoWord}
@@ -8,15 +8,15 @@ use Rattle.lexer.specs.Cuts.{word_of}
 use Rattle.lexer.specs.declared.Sign.TheVariants.{Mu, Nu, True, False}
 
 -- a run that reaches to the end
-pub all_leading : (p : ℕ → Bool) (xs : List ℕ) → All (λ x. p x ≡ true) xs → prefix_len p xs ≡ length xs
+pub all_leading : (p : ℕ → Bool) (xs : List ℕ) → AllByRecursion (λ x. p x ≡ true) xs → prefix_len p xs ≡ length xs
 all_leading p [] h = refl
 all_leading p (x ∷ xs) h = rw h.0 (omega (arith, all_leading p xs h.1))
 
-pub leading_all : (p : ℕ → Bool) (xs : List ℕ) → length xs ≤ prefix_len p xs → All (λ x. p x ≡ true) xs
+pub leading_all : (p : ℕ → Bool) (xs : List ℕ) → length xs ≤ prefix_len p xs → AllByRecursion (λ x. p x ≡ true) xs
 leading_all p [] h = tt
 leading_all p (x ∷ xs) h = go (p x) refl h (λ k. leading_all p xs k)
   where
-    go : (b : Bool) → p x ≡ b → length (x ∷ xs) ≤ cond b (1 + prefix_len p xs) 0 → (length xs ≤ prefix_len p xs → All (λ x. p x ≡ true) xs) → (p x ≡ true) × All (λ x. p x ≡ true) xs
+    go : (b : Bool) → p x ≡ b → length (x ∷ xs) ≤ cond b (1 + prefix_len p xs) 0 → (length xs ≤ prefix_len p xs → AllByRecursion (λ x. p x ≡ true) xs) → (p x ≡ true) × AllByRecursion (λ x. p x ≡ true) xs
     go true e h f = (e, f (omega arith))
     go false e h f = absurd (omega arith)
 

@@ -1,7 +1,7 @@
 -- Tokens, and how each is spelled.
 use Rattle.std.specs.Prelude.{◌≡◌, ℕ, ◌+◌, ◌<◌, ◌≤◌, Bool, true, ◌||◌, ◌⊎◌, List, [], ◌∷◌, length, take, drop, codes, ◌≢◌, slice_index}
 use Rattle.std.specs.Char.{is_ascii_digit, is_ascii_lowercase}
-use Rattle.std.specs.List.{AllByRecursion as All}
+use Rattle.std.specs.List.{AllByRecursion}
 use Rattle.lexer.specs.declared.Sign.{Sign}
 use Rattle.lexer.specs.declared.Sign.TheVariants.{Mu, Nu, True, False, Not, And, Or, Bar, Less, Greater, LeftBracket, RightBracket, Open, Close, Dot}
 
@@ -12,7 +12,7 @@ in_name b = is_ascii_lowercase b || is_ascii_digit b
 -- A small letter and then small letters or digits.
 pub record Run (w : List ℕ) : Type 0 where
   pub first : is_ascii_lowercase (slice_index w 0) ≡ true
-  pub rest : All (λ b. in_name b ≡ true) w
+  pub rest : AllByRecursion (λ b. in_name b ≡ true) w
 
 -- None of the four words.
 abbrev pub NoWord : List ℕ → Type 0

@@ -1,6 +1,6 @@
 -- The numbers in the entries are in their ranges.
 use Rattle.std.proofs.Common.{◌≡◌, ℕ, ◌-◌, ◌<◌, ◌≤◌, ◌⊎◌, List, [], ◌∷◌, ◌++◌, length, get_or, Option, sym, ap, ◌∙◌, subst, inl, inr, arith}
-use Rattle.std.specs.List.{AllByRecursion as All}
+use Rattle.std.specs.List.{AllByRecursion}
 use Rattle.std.proofs.lemmas.List.{length_push, get_or_push, get_or_append_left}
 use Rattle.std.proofs.lemmas.Bool.{cases_lt}
 use Rattle.formulas.specs.declared.Expr.{Expr}
@@ -42,20 +42,20 @@ Vars (fixpoint x v a) = (v ≤ 25) × Vars a
 abbrev TokenOk : Tok → Type 0
 TokenOk (tok s p) = IsToken s
 
-tokens_ok : {bs : List ℕ} {i : ℕ} {ts : List Tok} → TokensOf bs i ts → All TokenOk ts
+tokens_ok : {bs : List ℕ} {i : ℕ} {ts : List Tok} → TokensOf bs i ts → AllByRecursion TokenOk ts
 tokens_ok (no_more i s) = tt
 tokens_ok (one_more i s p sp l r) = (l.token, tokens_ok r)
 
-left_all : (xs ys : List Tok) → All TokenOk (xs ++ ys) → All TokenOk xs
+left_all : (xs ys : List Tok) → AllByRecursion TokenOk (xs ++ ys) → AllByRecursion TokenOk xs
 left_all [] ys h = tt
 left_all (x ∷ xs) ys h = (h.0, left_all xs ys h.1)
 
-right_all : (xs ys : List Tok) → All TokenOk (xs ++ ys) → All TokenOk ys
+right_all : (xs ys : List Tok) → AllByRecursion TokenOk (xs ++ ys) → AllByRecursion TokenOk ys
 right_all [] ys h = h
 right_all (x ∷ xs) ys h = right_all xs ys h.1
 
 mutual
-  unit_vars : {l : Level} {e : Ending} {u : List Tok} {a : Tree} → UnitOf l e u a → All TokenOk u → Vars a
+  unit_vars : {l : Level} {e : Ending} {u : List Tok} {a : Tree} → UnitOf l e u a → AllByRecursion TokenOk u → Vars a
   unit_vars (is_true p) h = tt
   unit_vars (is_false p) h = tt
   unit_vars (is_feature w p) h = tt
@@ -65,11 +65,11 @@ mutual
   unit_vars (is_modal m w p q r s {d} {e} {x} {u} y z) h = unit_vars z (right_all x _ h.1.1.1).1
   unit_vars (is_fixpoint x v p q r d) h = (omega (arith, h.1.0), phrase_vars d h.1.1.1)
 
-  part_vars : {l : Level} {e : Ending} {u : List Tok} {a : Tree} → AndPartOf l e u a → All TokenOk u → Vars a
+  part_vars : {l : Level} {e : Ending} {u : List Tok} {a : Tree} → AndPartOf l e u a → AllByRecursion TokenOk u → Vars a
   part_vars (one_unit d) h = unit_vars d h
   part_vars (more_units p {e} {u} {w} c d) h = (part_vars c (left_all u _ h), unit_vars d (right_all u _ h).1)
 
-  phrase_vars : {l : Level} {e : Ending} {u : List Tok} {a : Tree} → PhraseOf l e u a → All TokenOk u → Vars a
+  phrase_vars : {l : Level} {e : Ending} {u : List Tok} {a : Tree} → PhraseOf l e u a → AllByRecursion TokenOk u → Vars a
   phrase_vars (one_part d) h = part_vars d h
   phrase_vars (more_parts p {e} {u} {w} c d) h = (phrase_vars c (left_all u _ h), part_vars d (right_all u _ h).1)
 

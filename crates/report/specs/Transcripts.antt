@@ -1,6 +1,6 @@
 -- The lines of an input, and what is written for them.
 use Rattle.std.specs.Prelude.{◌≡◌, ℕ, ◌+◌, ◌-◌, ◌^◌, min, List, [], ◌∷◌, ◌++◌, take, Some, None, Option, ◌≢◌}
-use Rattle.std.specs.List.{AllByRecursion as All}
+use Rattle.std.specs.List.{AllByRecursion}
 use Rattle.families.specs.Families.{Family}
 use Rattle.report.specs.Lines.{Line}
 use Rattle.report.specs.Sessions.{family_of, actions_of, features_of}
@@ -25,7 +25,7 @@ Told (Some x) P = P x
 
 -- A line has no byte 10.
 abbrev pub Unbroken : List ℕ → Type 0
-Unbroken text = All (λ b. b ≢ 10) text
+Unbroken text = AllByRecursion (λ b. b ≢ 10) text
 
 -- What is written for an input that begins with line n: the answers to its lines, in order. Each line ends with byte 10; a last line that is
 -- not empty may lack it.

@@ -1,6 +1,6 @@
 -- A walk over the lines of a list.
 use Rattle.std.proofs.Common.{◌≡◌, ℕ, ◌+◌, ◌-◌, ◌<◌, ◌≤◌, ◌⊎◌, List, [], ◌∷◌, ◌++◌, length, get_or, take, drop, Some, None, sym, refl, ap, ◌∙◌, subst, inl, inr, append_assoc, append-nil, arith, length-append}
-use Rattle.std.specs.List.{prefix_len, AllByRecursion as All}
+use Rattle.std.specs.List.{prefix_len, AllByRecursion}
 use Rattle.std.proofs.ByRecursion.{All-get_or, All-push}
 use Rattle.std.proofs.lemmas.List.{take-append-drop, length_push, drop_all, get_or_push, get_or_append_left, get_or_at, take_more, take-take, drop-take}
 use Rattle.std.proofs.lemmas.Bool.{cases_lt}
@@ -15,7 +15,7 @@ pub record Midway (bs : List ℕ) (ws : List (List ℕ)) (at k : ℕ) (w : List 
   pub rest : List (List ℕ)
   pub split : ws ≡ done ++ rest
   pub left : drop at bs ≡ listed rest
-  pub clean : All Clean rest
+  pub clean : AllByRecursion Clean rest
   pub count : length done ≡ k
   pub absent : number done w ≡ None
 

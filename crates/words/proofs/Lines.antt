@@ -1,6 +1,6 @@
 -- How a list falls into lines.
 use Rattle.std.proofs.Common.{◌≡◌, ℕ, ◌+◌, ◌<◌, true, List, [], ◌∷◌, ◌++◌, length, take, drop, sym, refl, ap, ◌∙◌, subst, append_assoc, add_assoc, arith, length-append, length-drop}
-use Rattle.std.specs.List.{prefix_len, AllByRecursion as All}
+use Rattle.std.specs.List.{prefix_len, AllByRecursion}
 use Rattle.std.proofs.ByRecursion.{All-weaker}
 use Rattle.std.proofs.lemmas.List.{take_at, drop_at, drop-drop, length_push}
 use Rattle.std.proofs.lemmas.Bool.Decides.{nat_tests}
@@ -8,7 +8,7 @@ use Rattle.lexer.specs.Tokens.{Name, in_name}
 use Rattle.words.specs.Words.{inside, listed, Lines, WordList}
 
 abbrev pub Clean : List ℕ → Type 0
-Clean w = All (λ b. inside b ≡ true) w
+Clean w = AllByRecursion (λ b. inside b ≡ true) w
 
 -- names have no byte 10
 in_line : (b : ℕ) → in_name b ≡ true → inside b ≡ true
@@ -29,13 +29,13 @@ pub record First (bs : List ℕ) (at : ℕ) (rest : List (List ℕ)) : Type 0 wh
   pub line : List ℕ
   pub others : List (List ℕ)
   pub split : rest ≡ line ∷ others
-  pub clean : All Clean others
+  pub clean : AllByRecursion Clean others
   pub run : prefix_len inside (drop at bs) ≡ length line
   pub is : take (length line) (drop at bs) ≡ line
   pub here : at + length line < length bs
   pub on : drop (at + length line + 1) bs ≡ listed others
 
-pub first_line : (bs : List ℕ) (at : ℕ) (rest : List (List ℕ)) → at < length bs → drop at bs ≡ listed rest → All Clean rest → First bs at rest
+pub first_line : (bs : List ℕ) (at : ℕ) (rest : List (List ℕ)) → at < length bs → drop at bs ≡ listed rest → AllByRecursion Clean rest → First bs at rest
 first_line bs at [] lt e h = absurd (omega (arith, length-drop at bs, ap length e))
 first_line bs at (w ∷ ws) lt e h =
     record {
@@ -63,7 +63,7 @@ same_line (b ∷ w) [] x y h k e = let i : b ≡ 10 = cc in let n = h.0 in let m
 same_line (b ∷ w) (c ∷ u) x y h k e = let i : b ≡ c = cc in let j : w ++ 10 ∷ x ≡ u ++ 10 ∷ y = cc in let r = same_line w u x y h.1 k.1 j in let p = r.0 in (cc, r.1)
 
 -- lines that are a front of a list are its first lines
-pub front_lines : (ws us : List (List ℕ)) (d : List ℕ) → All Clean ws → All Clean us → listed ws ++ d ≡ listed us → (rest : List (List ℕ)) × (us ≡ ws ++ rest) × (d ≡ listed rest) × All Clean rest
+pub front_lines : (ws us : List (List ℕ)) (d : List ℕ) → AllByRecursion Clean ws → AllByRecursion Clean us → listed ws ++ d ≡ listed us → (rest : List (List ℕ)) × (us ≡ ws ++ rest) × (d ≡ listed rest) × AllByRecursion Clean rest
 front_lines [] us d h k e = (us, refl, e, k)
 front_lines (w ∷ ws) [] d h k e = absurd (omega (arith, ap length e, length-append (w ++ 10 ∷ listed ws) d, length-append w (10 ∷ listed ws)))
 front_lines (w ∷ ws) (u ∷ us) d h k e =

@@ -1,7 +1,7 @@
 -- Word lists.
 use Rattle.std.specs.Prelude.{◌≡◌, ℕ, ◌+◌, ◌<◌, ◌≤◌, Bool, true, cond, not, List, [], ◌∷◌, ◌++◌, length, Some, None, Option, ◌==◌, ◌≢◌, slice_index_or}
 use Rattle.lexer.specs.Tokens.{Name}
-use Rattle.std.specs.List.{AllByRecursion as All}
+use Rattle.std.specs.List.{AllByRecursion}
 use Rattle.std.specs.Str.{bytes_eq}
 
 -- A byte within a line: any but 10.
@@ -16,12 +16,12 @@ listed (w ∷ ws) = w ++ 10 ∷ listed ws
 -- The lines of a list.
 pub record Lines (bs : List ℕ) (ws : List (List ℕ)) : Type 0 where
   pub ended : bs ≡ listed ws
-  pub clean : All (λ w. All (λ b. inside b ≡ true) w) ws
+  pub clean : AllByRecursion (λ w. AllByRecursion (λ b. inside b ≡ true) w) ws
 
 -- The names of a word list: it is their bytes, each ended by byte 10; no name stands twice, and there are at most so many.
 pub record WordList (limit : ℕ) (bs : List ℕ) (ws : List (List ℕ)) : Type 0 where
   pub ended : bs ≡ listed ws
-  pub names : All Name ws
+  pub names : AllByRecursion Name ws
   pub apart : (i j : ℕ) → i < j → j < length ws → slice_index_or ws i [] ≢ slice_index_or ws j []
   pub few : length ws ≤ limit
 
