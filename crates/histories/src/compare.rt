@@ -1,9 +1,9 @@
 // Two histories, and whether a product of one has the column of a product of the other.
-ghost use Rattle.std.specs.Prelude.{◌≡◌, ℕ, ◌+◌, ◌*◌, ◌<◌, ◌≤◌, true, false, T, ◌↔◌, length, IfOk};
+ghost use Rattle.std.specs.Prelude.{◌≡◌, ℕ, ◌+◌, ◌*◌, ◌<◌, ◌≤◌, true, false, T, ◌↔◌, ◌⊎◌, length, IfOk, OnErr};
 ghost use Rattle.families.specs.Families.{count};
 ghost use Rattle.book.specs.Contents.{closed_contents};
 ghost use Rattle.histories.specs.Columns.{SameCells, SameColumn};
-ghost use Rattle.histories.specs.Laws.{left, Comparison};
+ghost use Rattle.histories.specs.Laws.{left, HistoryLaw, Comparison};
 
 use crate::calls::History;
 use crate::run::run;
@@ -76,7 +76,8 @@ fn comparable(
 }
 
 // Runs two histories, checks the same formula at the end of each, and answers whether product i of the first has the
-// column of product j of the second: none if they cannot be compared.
+// column of product j of the second: none if they cannot be compared. Without memory for the second book only the first
+// history is run, and without memory for the first none.
 pub fn compare<K: Kind, L: Kind>(
     heap: Global,
     exprs: &[Expr],
@@ -90,7 +91,9 @@ pub fn compare<K: Kind, L: Kind>(
     other: &mut L,
     others: &mut [L::Set],
 ) -> Result<Option<bool>, AllocError>
-    ensures { IfOk result (λ o. Comparison (left first.entry) (left second.entry) i j exprs.now nodes.now K.Kind.places (K.Kind.means kind.new) (length cells.old) cells.new L.Kind.places (L.Kind.means other.new) (length others.old) others.new o) }
+    ensures compared { IfOk result (λ o. Comparison (left first.entry) (left second.entry) i j exprs.now nodes.now K.Kind.places (K.Kind.means kind.new) (length cells.old) cells.new L.Kind.places (L.Kind.means other.new) (length others.old) others.new o) }
+    ensures failed { OnErr result ((other.new ≡ other.old) × (others.new ≡ others.old)) }
+    ensures first { OnErr result (((kind.new ≡ kind.old) × (cells.new ≡ cells.old)) ⊎ ((k v : ℕ) × HistoryLaw K.Kind.places (K.Kind.means kind.new) (left first.entry) exprs.now nodes.now (length cells.old) cells.new k v)) }
 {
     let ((number, _), book) = run(heap, first, exprs, nodes, kind, cells)?;
     let ((other_number, _), other_book) = run(heap, second, exprs, nodes, other, others)?;

@@ -10,8 +10,8 @@ moved : (k l : ℕ) (F F' G G' : Family) (i j : ℕ) → F ≡ F' → G ≡ G' �
 moved k l F F' G G' i j p q c =
     subst (λ (H : Family). Comparable k l F' H i j) q (subst (λ (H : Family). Comparable k l H G i j) p c)
 
-pub returns-then-not-comparable : goal.returns-then-not-comparable
-returns-then-not-comparable g c =
+pub returns-then-not-comparable-clause-compared : goal.returns-then-not-comparable-clause-compared
+returns-then-not-comparable-clause-compared g c =
     let one = c.in_ok-number.ensures in
     let two = c.in_ok-other_number.ensures in
     compared _ _ (left c.args.first) (left c.args.second) c.args.i c.args.j _ _ _ _ _ _ _ _ _ _ _ _ one.law two.law None
@@ -28,8 +28,8 @@ same_column-requires g c =
     let q = (two.law.1 can.1).0 in
     (omega (arith, s, r, c.run.auto.cells), omega (arith, t, q, c.run-2.auto.cells))
 
-pub returns : goal.returns
-returns g c =
+pub returns-clause-compared : goal.returns-clause-compared
+returns-clause-compared g c =
     let one = c.in_ok-number.ensures in
     let two = c.in_ok-other_number.ensures in
     let can = moved _ _ _ _ _ _ _ _ one.book two.book (c.if-not-comparable.ensures.0 tt) in

@@ -10,8 +10,8 @@ loop-call-preserved g c =
     ∙ sym (at_drop_more (λ cs. history cs (standing_of c.loop-call.phase)) c.args.history.calls.now c.loop-call.call-index (AddProduct 0) (omega arith))
     ∙ c.loop-call.invariant
 
-pub returns : goal.returns
-returns g c =
+pub returns-clause-book : goal.returns-clause-book
+returns-clause-book g c =
     c.closed.ensures
     ∙ ap (λ s. s.family)
     (sym (at_drop_all (λ cs. history cs (standing_of c.loop-call.phase)) c.args.history.calls.now c.loop-call.call-index (omega arith))
