@@ -4,6 +4,12 @@
 ghost use Rattle.std.specs.Prelude.{T, ◌↔◌};
 ghost use Rattle.families.specs.Families.{Meets};
 
+// The number of an answer that is no refusal.
+pub const ACCEPTED: u8 = 0;
+
+// Actions are numbered from 0 to this one.
+pub const MAX_ACTION: u8 = 63;
+
 // One transition of a family (the makers call it a step). A product has it if its configuration has every
 // feature of `required` (the makers' need) and none of `excluded` (their bar); bit k stands for feature k.
 #[derive(Clone, Copy, PartialEq, Eq)]

@@ -18,7 +18,7 @@ pub use turns::RangeSet;
 // The set of the first `count` places, or of all where the kind has fewer.
 pub fn first<K: Kind>(kind: &mut K, count: usize) -> K::Set
     ensures value { (p : ℕ) → K.means kind.new result p ≡ (nat_lt p count && nat_lt p K.places) }
-    ensures kept { (s : K.Set) (p : ℕ) → K.means kind.new s p ≡ K.means kind.old s p }
+    ensures kept { K.means kind.new ≡ K.means kind.old }
 {
     let mut set = kind.none();
     for place in 0..count.min(kind.places_count()) {

@@ -1,37 +1,18 @@
 // The range kind: 200 places, a set being the places at which membership turns.
-ghost use Rattle.std.specs.Prelude.{◌≡◌, ℕ, ◌<◌, ◌&&◌, ◌==◌, nat_lt};
+ghost use Rattle.std.specs.Prelude.{◌≡◌, ℕ, ◌<◌, false, not, ◌&&◌, ◌||◌, ◌==◌, nat_lt};
 ghost use Rattle.product_sets.specs.Turns.{turned};
-ghost use Rattle.product_sets.specs.Combined.{combined};
 ghost use Rattle.std.proofs.Common.{lit<};
 ghost use Rattle.std.proofs.lemmas.Bool.{le-ltb, and_left};
 
 use crate::kind::Kind;
-use crate::turns::{PLACES, RangeSet};
+use crate::turns::{PLACES, RangeSet, inside_after};
 
-#[derive(Clone, Copy)]
-enum Operation {
-    Meet,
-    Join,
-    Difference,
-}
-
-impl Operation {
-    // Whether a place is in the result, by whether it is in each of two sets.
-    fn apply(self, left: bool, right: bool) -> bool
-        ensures { result ≡ combined self left right }
-    {
-        match self {
-            Operation::Meet => left & right,
-            Operation::Join => left | right,
-            Operation::Difference => left & !right,
-        }
-    }
-}
-
-// One pass through both lists of turning places: each turn of the loop takes the smaller next place, on both sides
-// where they are equal. After i turns of a set membership is in exactly if i is odd.
-fn merged(operation: Operation, a: &RangeSet, b: &RangeSet) -> RangeSet
-    ensures { (p : ℕ) → turned result.turns result.count p ≡ combined operation (turned a.now.turns a.now.count p) (turned b.now.turns b.now.count p) }
+// One pass through both lists of turning places, for an operation that is out where both sides are: each turn of the
+// loop takes the smaller next place, on both sides where they are equal.
+fn merged<F: Fn(bool, bool) -> bool>(a: &RangeSet, b: &RangeSet, operation: F) -> RangeSet
+    requires callable { F.IsAlwaysCallable operation }
+    requires outside { F.post operation false false false }
+    ensures { (p : ℕ) → F.post operation (turned a.now.turns a.now.count p) (turned b.now.turns b.now.count p) (turned result.turns result.count p) }
 {
     let mut built = RangeSet::none();
     let mut i = 0;
@@ -40,7 +21,7 @@ fn merged(operation: Operation, a: &RangeSet, b: &RangeSet) -> RangeSet
     'merge: while place < PLACES {
         i = a.past(i, place);
         j = b.past(j, place);
-        built.turn(place, operation.apply(i % 2 == 1, j % 2 == 1));
+        built.turn(place, operation(inside_after(i), inside_after(j)));
         place = a.next(i).min(b.next(j));
     }
     built
@@ -83,22 +64,40 @@ impl Kind for Range {
 
     fn put(&mut self, s: RangeSet, place: usize) -> RangeSet {
         if place < PLACES {
-            merged(Operation::Join, &s, &one(place))
+            self.join(s, one(place))
         } else {
             s
         }
     }
 
     fn meet(&mut self, a: RangeSet, b: RangeSet) -> RangeSet {
-        merged(Operation::Meet, &a, &b)
+        merged(
+            &a,
+            &b,
+            |left, right|
+                ensures { result ≡ (left && right) }
+            { left & right },
+        )
     }
 
     fn join(&mut self, a: RangeSet, b: RangeSet) -> RangeSet {
-        merged(Operation::Join, &a, &b)
+        merged(
+            &a,
+            &b,
+            |left, right|
+                ensures { result ≡ (left || right) }
+            { left | right },
+        )
     }
 
     fn rest(&mut self, s: RangeSet) -> RangeSet {
-        merged(Operation::Difference, &RangeSet::all(), &s)
+        merged(
+            &RangeSet::all(),
+            &s,
+            |all, inside|
+                ensures { result ≡ (all && not inside) }
+            { all & !inside },
+        )
     }
 
     fn has(&self, s: RangeSet, place: usize) -> bool {
@@ -106,6 +105,7 @@ impl Kind for Range {
     }
 
     fn same(&self, a: RangeSet, b: RangeSet) -> bool {
-        a.equal(&b)
+        // Not a derived `==`, which would compare what lies past the turning places too.
+        a.turning() == b.turning()
     }
 }

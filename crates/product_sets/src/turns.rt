@@ -14,6 +14,13 @@ pub struct RangeSet {
     ghost capped: { Capped turns count 200 },
 }
 
+// Whether a place is in past so many turning places.
+pub(crate) fn inside_after(turns: usize) -> bool
+    ensures { result ≡ odd turns }
+{
+    turns % 2 == 1
+}
+
 impl RangeSet {
     pub(crate) fn none() -> RangeSet
         ensures { result.count ≡ 0 }
@@ -34,25 +41,30 @@ impl RangeSet {
         }
     }
 
+    // The turning places. An array with a count holds them, since a set is Copy and no vector is.
+    pub(crate) fn turning(&self) -> &[u8]
+        ensures { result.now ≡ take self.now.count self.now.turns }
+    {
+        &self.turns[..self.count]
+    }
+
     // Whether a place is in: membership turns at each turning place up to it.
     pub(crate) fn contains(&self, place: usize) -> bool
         ensures { result ≡ turned self.now.turns self.now.count place }
     {
-        let mut inside = false;
-        for i in 0..self.count {
-            if self.turns[i] as usize <= place {
-                inside = !inside;
-            }
-        }
-        inside
+        let turns = self
+            .turning()
+            .iter()
+            .filter(|turn| usize::from(**turn) <= place);
+        inside_after(turns.count())
     }
 
-    // Turning place number i, or the count of places past the last.
+    // Turning place number i, or the count of places past the last, so that the next of two sets is the smaller one.
     pub(crate) fn next(&self, i: usize) -> usize
         ensures { result ≡ next self.now.turns self.now.count i }
     {
         if i < self.count {
-            self.turns[i] as usize
+            usize::from(self.turns[i])
         } else {
             PLACES
         }
@@ -81,25 +93,10 @@ impl RangeSet {
         ensures before { (p : ℕ) → p < place → turned self.new.turns self.new.count p ≡ turned self.old.turns self.old.count p }
         ensures after { (p : ℕ) → place ≤ p → turned self.new.turns self.new.count p ≡ inside }
     {
-        if (self.count % 2 == 1) != inside {
+        if inside_after(self.count) != inside {
+            // Nothing is lost, as is proved; `try_from` would answer for a case that cannot come.
             self.turns[self.count] = place as u8;
             self.count += 1;
         }
-    }
-
-    // Whether two sets turn at the same places.
-    pub(crate) fn equal(&self, other: &RangeSet) -> bool
-        ensures sound { result ≡ true → take self.now.count self.now.turns ≡ take other.now.count other.now.turns }
-        ensures full { take self.now.count self.now.turns ≡ take other.now.count other.now.turns → result ≡ true }
-    {
-        if self.count != other.count {
-            return false;
-        }
-        for i in 0..self.count {
-            if self.turns[i] != other.turns[i] {
-                return false;
-            }
-        }
-        true
     }
 }

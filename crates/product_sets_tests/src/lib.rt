@@ -44,8 +44,8 @@ mod tests {
 
         fn listed(self, count: usize) -> [bool; 256] {
             let mut list = [false; 256];
-            for place in 0..TRIED {
-                list[place] = place < count && self.wants(place);
+            for (place, item) in list.iter_mut().enumerate() {
+                *item = place < count && self.wants(place);
             }
             list
         }
@@ -63,12 +63,9 @@ mod tests {
 
     // Whether a set has the places that a list says.
     fn agrees<K: Kind>(kind: &K, set: K::Set, list: &[bool; 256]) -> bool {
-        for place in 0..TRIED {
-            if kind.has(set, place) != list[place] {
-                return false;
-            }
-        }
-        true
+        list.iter()
+            .enumerate()
+            .all(|(place, wanted)| kind.has(set, place) == *wanted)
     }
 
     // What meet, join, rest and same have to say of two lists.
@@ -80,14 +77,12 @@ mod tests {
         let mut met = [false; 256];
         let mut joined = [false; 256];
         let mut rest = [false; 256];
-        let mut alike = true;
         for place in 0..TRIED {
             met[place] = left[place] & right[place];
             joined[place] = left[place] | right[place];
             rest[place] = place < count && !left[place];
-            alike = alike & (left[place] == right[place]);
         }
-        (met, joined, rest, alike)
+        (met, joined, rest, left == right)
     }
 
     fn combine<K: Kind>(rt: &impl Abort, kind: &mut K, a: Shape, b: Shape) {
