@@ -1,45 +1,55 @@
 // The rules that a pair of tables has to keep, and the call that judges them.
-ghost use Rattle.std.specs.Prelude.{◌≡◌, ℕ, ◌+◌, ◌*◌, ◌<◌, ◌≤◌, T, ◌↔◌, length, MatchOption, slice_index_or};
+ghost use Rattle.std.specs.Prelude.{◌≡◌, ℕ, ◌+◌, ◌*◌, ◌<◌, ◌≤◌, true, false, T, ◌↔◌, length, IsOk, IfOk, IfErr, MatchOption, slice_index_or};
 ghost use Rattle.formulas.specs.Tables.{Names, Binds, Tree};
 ghost use Rattle.formulas.specs.Sound.{Sound};
-ghost use Rattle.formulas.specs.Judge.{Climb, ExprFitsAt, Few, First, Judged, Keeps, Kept, NodeFitsAt, Ready, Rebinds, Unbound, OddBound, entries, naming, after_not, times};
+ghost use Rattle.formulas.specs.Judge.{Climb, ExprFitsAt, Few, Judged, NodeFitsAt, Rebinds, Unbound, OddBound, naming, after_not, times, answer_of, pair_of};
+ghost use Rattle.formulas.specs.Passing.{Passes, passes_prop};
 ghost use Rattle.formulas.specs.declared.Node.TheVariants as nd;
 
 use crate::{Expr, Node};
+use families::MAX_ACTION;
 
 pub const MAX_ENTRIES: usize = 64;
 
 pub const MAX_FEATURE: u8 = 15;
 
-pub const MAX_ACTION: u8 = 63;
-
 pub const MAX_VARIABLE: u8 = 25;
 
-pub const ACCEPTED: u8 = 0;
+// Why a pair of tables is refused, with the first entry that breaks the rule.
+#[derive(Clone, Copy, Debug, PartialEq, Eq)]
+pub enum Unsound {
+    BadSize,
+    BadExpr(usize),
+    BadNode(usize),
+    NotNamedOnce(usize),
+    BoundTwice(usize),
+    Unbound(usize),
+    OddlyBound(usize),
+}
 
-pub const BAD_TABLE_SIZE: u8 = 10;
+// The refusal's number and its value.
+impl From<Unsound> for (u8, usize) {
+    ghost from_gives = { λ reason pair. pair ≡ pair_of reason };
 
-pub const BAD_EXPR: u8 = 11;
+    fn from(reason: Unsound) -> (u8, usize) {
+        match reason {
+            Unsound::BadSize => (10, 0),
+            Unsound::BadExpr(n) => (11, n),
+            Unsound::BadNode(n) => (12, n),
+            Unsound::NotNamedOnce(n) => (13, n),
+            Unsound::BoundTwice(n) => (14, n),
+            Unsound::Unbound(n) => (15, n),
+            Unsound::OddlyBound(n) => (16, n),
+        }
+    }
+}
 
-pub const BAD_NODE: u8 = 12;
-
-pub const NOT_NAMED_ONCE: u8 = 13;
-
-pub const BOUND_TWICE: u8 = 14;
-
-pub const UNBOUND: u8 = 15;
-
-pub const ODDLY_BOUND: u8 = 16;
-
-// A rule on single entries.
+// Tables that break no rule, and so are sound.
 #[derive(Clone, Copy)]
-pub enum Rule {
-    Exprs,
-    Nodes,
-    NamedOnce,
-    BoundOnce,
-    Bound,
-    Even,
+pub struct SoundTables<'t> {
+    pub exprs: &'t [Expr],
+    pub nodes: &'t [Node],
+    ghost passes: { Passes exprs.now nodes.now } by { passes_prop exprs.now nodes.now },
 }
 
 // Whether entry n of an expression table names only entries below it and a feature that there is.
@@ -91,11 +101,7 @@ fn times_named(nodes: &[Node], c: usize) -> usize
     requires { length nodes.now ≤ 64 }
     ensures { result ≡ naming nodes.now c }
 {
-    let mut count = 0;
-    for node in nodes {
-        count += times_in(*node, c);
-    }
-    count
+    nodes.iter().map(|node| times_in(*node, c)).sum()
 }
 
 fn binds(node: Node, v: u8) -> bool
@@ -110,35 +116,25 @@ fn binds(node: Node, v: u8) -> bool
 fn names(node: Node, c: usize) -> bool
     ensures { T result ↔ Names c node }
 {
-    match node {
-        Node::False | Node::True | Node::Variable(_) => false,
-        Node::Not(d)
-        | Node::Diamond { part: d, .. }
-        | Node::Box { part: d, .. }
-        | Node::Least(_, d)
-        | Node::Greatest(_, d) => c == d,
-        Node::Or(d, e) | Node::And(d, e) => c == d || c == e,
-    }
+    times_in(node, c) > 0
 }
 
 // The first entry behind m that names it.
 fn parent(nodes: &[Node], m: usize) -> Option<usize>
     ensures { MatchOption result ((p : ℕ) → m < p → Names m (slice_index_or nodes.now p nd.False) → ⊥) (λ p. (m < p) × (p < length nodes.now) × Names m (slice_index_or nodes.now p nd.False)) }
 {
-    for (p, node) in nodes.iter().enumerate() {
-        if m < p && names(*node, m) {
-            return Some(p);
-        }
-    }
-    None
+    nodes
+        .iter()
+        .enumerate()
+        .position(|(p, node)| m < p && names(*node, m))
 }
 
 // A negation turns the count of negations passed.
 fn past_not(node: Node, odd: Option<bool>) -> Option<bool>
     ensures { result ≡ after_not node odd }
 {
-    match (node, odd) {
-        (Node::Not(_), Some(odd)) => Some(!odd),
+    match node {
+        Node::Not(_) => odd.map(|odd| !odd),
         _ => odd,
     }
 }
@@ -147,15 +143,11 @@ fn past_not(node: Node, odd: Option<bool>) -> Option<bool>
 fn climb(nodes: &[Node], m: usize, v: u8) -> Option<bool>
     ensures { Climb nodes.now v m result }
 {
-    match parent(nodes, m) {
-        None => None,
-        Some(p) => {
-            if binds(nodes[p], v) {
-                return Some(false);
-            }
-            past_not(nodes[p], climb(nodes, p, v))
-        }
+    let p = parent(nodes, m)?;
+    if binds(nodes[p], v) {
+        return Some(false);
     }
+    past_not(nodes[p], climb(nodes, p, v))
 }
 
 fn unbound(nodes: &[Node], n: usize) -> bool
@@ -163,10 +155,7 @@ fn unbound(nodes: &[Node], n: usize) -> bool
     ensures { T result ↔ Unbound nodes.now n }
 {
     match nodes[n] {
-        Node::Variable(v) => match climb(nodes, n, v) {
-            None => true,
-            Some(_) => false,
-        },
+        Node::Variable(v) => climb(nodes, n, v).is_none(),
         _ => false,
     }
 }
@@ -176,72 +165,42 @@ fn oddly_bound(nodes: &[Node], n: usize) -> bool
     ensures { T result ↔ OddBound nodes.now n }
 {
     match nodes[n] {
-        Node::Variable(v) => match climb(nodes, n, v) {
-            None => false,
-            Some(odd) => odd,
-        },
+        Node::Variable(v) => climb(nodes, n, v).unwrap_or(false),
         _ => false,
     }
 }
 
-// Whether an entry before n binds v.
-fn bound_before(nodes: &[Node], n: usize, v: u8) -> bool
-    requires { n ≤ length nodes.now }
-    ensures { T result ↔ ((m : ℕ) × (m < n) × Binds v (slice_index_or nodes.now m nd.False)) }
-{
-    for m in 0..n {
-        if binds(nodes[m], v) {
-            return true;
-        }
-    }
-    false
-}
-
+// Whether an entry before n binds the same variable.
 fn rebinds(nodes: &[Node], n: usize) -> bool
     requires { n < length nodes.now }
     ensures { T result ↔ Rebinds nodes.now n }
 {
     match nodes[n] {
-        Node::Least(v, _) | Node::Greatest(v, _) => bound_before(nodes, n, v),
+        Node::Least(v, _) | Node::Greatest(v, _) => nodes[..n].iter().any(|node| binds(*node, v)),
         _ => false,
     }
 }
 
-// How many entries a rule is about.
-fn entry_count(rule: Rule, exprs: &[Expr], nodes: &[Node]) -> usize
-    ensures { result ≡ entries rule exprs.now nodes.now }
+// Whether an entry that is not the last is named once.
+fn named_once(nodes: &[Node], n: usize) -> bool
+    requires { (length nodes.now ≤ 64) × (n < length nodes.now) }
+    ensures { T result ↔ (n + 1 < length nodes.now → naming nodes.now n ≡ 1) }
 {
-    match rule {
-        Rule::Exprs => exprs.len(),
-        _ => nodes.len(),
-    }
+    n + 1 >= nodes.len() || times_named(nodes, n) == 1
 }
 
-fn keeps(rule: Rule, exprs: &[Expr], nodes: &[Node], n: usize) -> bool
-    requires { (Ready rule exprs.now nodes.now) × (n < entries rule exprs.now nodes.now) }
-    ensures { T result ↔ Keeps rule exprs.now nodes.now n }
+// Whether all entries below `count` keep a rule; an error is the first that does not.
+fn each<F: Fn(usize) -> bool>(count: usize, keeps: F) -> Result<(), usize>
+    requires { (n : ℕ) → n < count → F.pre keeps n }
+    ensures kept { IfOk result (λ _. (n : ℕ) → n < count → F.post keeps n true) }
+    ensures first { IfErr result (λ n. (n < count) × F.post keeps n false × ((m : ℕ) → m < n → F.post keeps m true)) }
 {
-    match rule {
-        Rule::Exprs => expr_fits(exprs[n], n),
-        Rule::Nodes => node_fits(nodes[n], exprs.len(), n),
-        Rule::NamedOnce => n + 1 >= nodes.len() || times_named(nodes, n) == 1,
-        Rule::BoundOnce => !rebinds(nodes, n),
-        Rule::Bound => !unbound(nodes, n),
-        Rule::Even => !oddly_bound(nodes, n),
-    }
-}
-
-// The first entry that breaks a rule.
-fn first_break(rule: Rule, exprs: &[Expr], nodes: &[Node]) -> Option<usize>
-    requires { Ready rule exprs.now nodes.now }
-    ensures { MatchOption result (Kept rule exprs.now nodes.now) (λ n. First rule exprs.now nodes.now n) }
-{
-    for n in 0..entry_count(rule, exprs, nodes) {
-        if !keeps(rule, exprs, nodes, n) {
-            return Some(n);
+    for n in 0..count {
+        if !keeps(n) {
+            return Err(n);
         }
     }
-    None
+    Ok(())
 }
 
 // Whether there is a formula, and neither table is too long.
@@ -251,33 +210,22 @@ fn few(exprs: &[Expr], nodes: &[Node]) -> bool
     0 < nodes.len() && nodes.len() <= MAX_ENTRIES && exprs.len() <= MAX_ENTRIES
 }
 
-// Judges a pair of tables: the number of the first broken rule with its first offending entry, or 0 and 0. The tables
+// Judges a pair of tables, by one rule after the other: an error is the first broken rule with its first offending entry. The tables
 // are sound exactly if none is broken.
-pub fn judge(exprs: &[Expr], nodes: &[Node]) -> (u8, usize)
-    ensures judged { Judged exprs.now nodes.now result.0 result.1 }
-    ensures sound { result.0 ≡ 0 → Sound exprs.now nodes.now }
-    ensures full { Sound exprs.now nodes.now → result.0 ≡ 0 }
+pub fn judge<'t>(exprs: &'t [Expr], nodes: &'t [Node]) -> Result<SoundTables<'t>, Unsound>
+    ensures judged { Judged exprs.now nodes.now (answer_of result).0 (answer_of result).1 }
+    ensures same { IfOk result (λ t. (t.exprs.now ≡ exprs.now) × (t.nodes.now ≡ nodes.now)) }
+    ensures sound { IsOk result → Sound exprs.now nodes.now }
+    ensures full { Sound exprs.now nodes.now → IsOk result }
 {
     if !few(exprs, nodes) {
-        return (BAD_TABLE_SIZE, 0);
+        return Err(Unsound::BadSize);
     }
-    if let Some(n) = first_break(Rule::Exprs, exprs, nodes) {
-        return (BAD_EXPR, n);
-    }
-    if let Some(n) = first_break(Rule::Nodes, exprs, nodes) {
-        return (BAD_NODE, n);
-    }
-    if let Some(n) = first_break(Rule::NamedOnce, exprs, nodes) {
-        return (NOT_NAMED_ONCE, n);
-    }
-    if let Some(n) = first_break(Rule::BoundOnce, exprs, nodes) {
-        return (BOUND_TWICE, n);
-    }
-    if let Some(n) = first_break(Rule::Bound, exprs, nodes) {
-        return (UNBOUND, n);
-    }
-    if let Some(n) = first_break(Rule::Even, exprs, nodes) {
-        return (ODDLY_BOUND, n);
-    }
-    (ACCEPTED, 0)
+    each(exprs.len(), |n| expr_fits(exprs[n], n)).map_err(Unsound::BadExpr)?;
+    each(nodes.len(), |n| node_fits(nodes[n], exprs.len(), n)).map_err(Unsound::BadNode)?;
+    each(nodes.len(), |n| named_once(nodes, n)).map_err(Unsound::NotNamedOnce)?;
+    each(nodes.len(), |n| !rebinds(nodes, n)).map_err(Unsound::BoundTwice)?;
+    each(nodes.len(), |n| !unbound(nodes, n)).map_err(Unsound::Unbound)?;
+    each(nodes.len(), |n| !oddly_bound(nodes, n)).map_err(Unsound::OddlyBound)?;
+    Ok(SoundTables { exprs, nodes })
 }
