@@ -3,14 +3,12 @@ use Rattle.std.specs.Prelude.{ℕ, List, [], ◌∷◌, ◌++◌}
 use Rattle.lexer.specs.Tokens.{Sym, name, variable, sign}
 use Rattle.lexer.specs.declared.Sign.{Sign}
 use Rattle.lexer.specs.declared.Sign.TheVariants.{Mu, Nu, True, False, Not, And, Or, Bar, Less, Greater, LeftBracket, RightBracket, Open, Close, Dot}
+use Rattle.grammar.specs.declared.Level.{Level}
+use Rattle.grammar.specs.declared.Level.TheVariants.{Formula as formula, Expression as expression}
 
 -- A token with its place in the text.
 pub data Tok : Type 0 where
   tok : Sym → ℕ → Tok
-
--- Formulas and the expressions in them are built alike.
-pub data Level : Type 0 where
-  formula expression : Level
 
 pub data Modality : Type 0 where
   diamond box : Modality

@@ -1,9 +1,9 @@
 -- The token that is found is the longest.
-use Rattle.std.proofs.Common.{◌≡◌, ℕ, zero, suc, ◌+◌, ◌-◌, ◌<◌, ◌≤◌, Bool, true, false, cond, ◌&&◌, eqb, ltb, List, [], ◌∷◌, length, get_or, take, drop, sym, refl, ap, ◌∙◌, subst, inl, inr, arith, length-drop, length-take}
+use Rattle.std.proofs.Common.{◌≡◌, ℕ, suc, ◌+◌, ◌-◌, ◌<◌, ◌≤◌, Bool, true, false, cond, ◌&&◌, eqb, ltb, List, [], ◌∷◌, length, get_or, take, drop, sym, refl, ap, ◌∙◌, subst, inl, inr, arith, length-drop, length-take}
 use Rattle.std.specs.Char.{is_ascii_lowercase, is_ascii_uppercase}
 use Rattle.std.specs.List.{prefix_len, between, AllByRecursion}
 use Rattle.std.proofs.lemmas.List.{get_or-drop, get_or-take, drop_more, length-take-le}
-use Rattle.std.proofs.lemmas.List.Sums.{prefix_len-le-length}
+use Rattle.std.proofs.lemmas.List.Sums.{prefix_len-le-length, prefix_len_passes, prefix_len_stops}
 use Rattle.std.proofs.lemmas.Bool.{eqb-true, ltb-true, ltb-false, and_parts}
 use Rattle.std.proofs.lemmas.Bool.Decides.{nat_tests}
 use Rattle.lexer.specs.Tokens.{in_name, Run, Sym, name, variable, sign, spelling, spell, IsToken, At, TooLong, Longest, Bad, Spaces}
@@ -14,26 +14,6 @@ use Rattle.lexer.proofs.Runs.{inside}
 use Rattle.lexer.proofs.Names.{Worded, is_name, is_mu, is_nu, is_true, is_false, worded}
 
 -- ---- runs
-
-pub leading_holds : (p : ℕ → Bool) (xs : List ℕ) (k : ℕ) → k < prefix_len p xs → p (get_or xs k 0) ≡ true
-leading_holds p [] k lt = absurd (omega arith)
-leading_holds p (x ∷ xs) k lt = go (p x) refl k lt (λ j h. leading_holds p xs j h)
-  where
-    go : (b : Bool) → p x ≡ b → (k : ℕ) → k < cond b (1 + prefix_len p xs) 0 → ((j : ℕ) → j < prefix_len p xs → p (get_or xs j 0) ≡ true) → p (get_or (x ∷ xs) k 0) ≡ true
-    go true e zero lt f = e
-    go true e (suc k) lt f = f k (omega arith)
-    go false e k lt f = absurd (omega arith)
-
-leading_stops : (p : ℕ → Bool) (xs : List ℕ) → prefix_len p xs < length xs → p (get_or xs (prefix_len p xs) 0) ≡ false
-leading_stops p [] lt = absurd (omega arith)
-leading_stops p (x ∷ xs) lt = go (p x) refl lt (λ h. leading_stops p xs h)
-  where
-    go : (b : Bool) → p x ≡ b → cond b (1 + prefix_len p xs) 0 < length (x ∷ xs) → (prefix_len p xs < length xs → p (get_or xs (prefix_len p xs) 0) ≡ false) → p (get_or (x ∷ xs) (cond b (1 + prefix_len p xs) 0) 0) ≡ false
-    go true e lt f = ap (λ n. p (get_or (x ∷ xs) n 0)) (one_more (prefix_len p xs)) ∙ f (omega arith)
-      where
-        one_more : (n : ℕ) → 1 + n ≡ suc n
-        one_more n = omega arith
-    go false e lt f = e
 
 -- bytes that stand at the front and all pass are within the run
 front_leading : (p : ℕ → Bool) (v xs : List ℕ) → take (length v) xs ≡ v → AllByRecursion (λ b. p b ≡ true) v → length v ≤ prefix_len p xs
@@ -87,23 +67,26 @@ module _ (bs : List ℕ) (at : ℕ) (lt : at < length bs) where
 is_in_name : (b : ℕ) → is_ascii_lowercase b ≡ true → in_name b ≡ true
 is_in_name b h = grind (arith, nat_tests)
 
+lower_range : (b : ℕ) → is_ascii_lowercase b ≡ true → (97 ≤ b) × (b < 123)
+lower_range b h = (grind (arith, nat_tests), grind (arith, nat_tests))
+
 -- a sign at a small letter is a word
 sign_run : (s : Sign) (b : ℕ) → is_ascii_lowercase b ≡ true → b ≡ get_or (spelling s) 0 0 → AllByRecursion (λ c. in_name c ≡ true) (spelling s)
 sign_run Mu b h e = (refl, (refl, tt))
 sign_run Nu b h e = (refl, (refl, tt))
 sign_run True b h e = (refl, (refl, (refl, (refl, tt))))
 sign_run False b h e = (refl, (refl, (refl, (refl, (refl, tt)))))
-sign_run Not b h e = let f : is_ascii_lowercase 33 ≡ true = subst (λ c. is_ascii_lowercase c ≡ true) e h in let z : ◌≡◌ {A = ℕ} 0 1 = cc in absurd (omega arith)
-sign_run And b h e = let f : is_ascii_lowercase 38 ≡ true = subst (λ c. is_ascii_lowercase c ≡ true) e h in let z : ◌≡◌ {A = ℕ} 0 1 = cc in absurd (omega arith)
-sign_run Or b h e = let f : is_ascii_lowercase 124 ≡ true = subst (λ c. is_ascii_lowercase c ≡ true) e h in let z : ◌≡◌ {A = ℕ} 0 1 = cc in absurd (omega arith)
-sign_run Bar b h e = let f : is_ascii_lowercase 124 ≡ true = subst (λ c. is_ascii_lowercase c ≡ true) e h in let z : ◌≡◌ {A = ℕ} 0 1 = cc in absurd (omega arith)
-sign_run Less b h e = let f : is_ascii_lowercase 60 ≡ true = subst (λ c. is_ascii_lowercase c ≡ true) e h in let z : ◌≡◌ {A = ℕ} 0 1 = cc in absurd (omega arith)
-sign_run Greater b h e = let f : is_ascii_lowercase 62 ≡ true = subst (λ c. is_ascii_lowercase c ≡ true) e h in let z : ◌≡◌ {A = ℕ} 0 1 = cc in absurd (omega arith)
-sign_run LeftBracket b h e = let f : is_ascii_lowercase 91 ≡ true = subst (λ c. is_ascii_lowercase c ≡ true) e h in let z : ◌≡◌ {A = ℕ} 0 1 = cc in absurd (omega arith)
-sign_run RightBracket b h e = let f : is_ascii_lowercase 93 ≡ true = subst (λ c. is_ascii_lowercase c ≡ true) e h in let z : ◌≡◌ {A = ℕ} 0 1 = cc in absurd (omega arith)
-sign_run Open b h e = let f : is_ascii_lowercase 40 ≡ true = subst (λ c. is_ascii_lowercase c ≡ true) e h in let z : ◌≡◌ {A = ℕ} 0 1 = cc in absurd (omega arith)
-sign_run Close b h e = let f : is_ascii_lowercase 41 ≡ true = subst (λ c. is_ascii_lowercase c ≡ true) e h in let z : ◌≡◌ {A = ℕ} 0 1 = cc in absurd (omega arith)
-sign_run Dot b h e = let f : is_ascii_lowercase 46 ≡ true = subst (λ c. is_ascii_lowercase c ≡ true) e h in let z : ◌≡◌ {A = ℕ} 0 1 = cc in absurd (omega arith)
+sign_run Not b h e = absurd (omega (arith, lower_range b h))
+sign_run And b h e = absurd (omega (arith, lower_range b h))
+sign_run Or b h e = absurd (omega (arith, lower_range b h))
+sign_run Bar b h e = absurd (omega (arith, lower_range b h))
+sign_run Less b h e = absurd (omega (arith, lower_range b h))
+sign_run Greater b h e = absurd (omega (arith, lower_range b h))
+sign_run LeftBracket b h e = absurd (omega (arith, lower_range b h))
+sign_run RightBracket b h e = absurd (omega (arith, lower_range b h))
+sign_run Open b h e = absurd (omega (arith, lower_range b h))
+sign_run Close b h e = absurd (omega (arith, lower_range b h))
+sign_run Dot b h e = absurd (omega (arith, lower_range b h))
 
 -- every sign has a first byte
 spelled : (s : Sign) → (c : ℕ) × (v : List ℕ) × (spelling s ≡ c ∷ v)
@@ -194,21 +177,21 @@ in_upper : (b v : ℕ) → v < 26 → b ≡ 65 + v → is_ascii_uppercase b ≡ 
 in_upper b v lt e = grind (arith, nat_tests)
 
 sign_not_upper : (s : Sign) (b : ℕ) → is_ascii_uppercase b ≡ true → b ≡ get_or (spelling s) 0 0 → ⊥
-sign_not_upper Mu b h e = omega (arith, (upper_range b h).0, (upper_range b h).1)
-sign_not_upper Nu b h e = omega (arith, (upper_range b h).0, (upper_range b h).1)
-sign_not_upper True b h e = omega (arith, (upper_range b h).0, (upper_range b h).1)
-sign_not_upper False b h e = omega (arith, (upper_range b h).0, (upper_range b h).1)
-sign_not_upper Not b h e = omega (arith, (upper_range b h).0, (upper_range b h).1)
-sign_not_upper And b h e = omega (arith, (upper_range b h).0, (upper_range b h).1)
-sign_not_upper Or b h e = omega (arith, (upper_range b h).0, (upper_range b h).1)
-sign_not_upper Bar b h e = omega (arith, (upper_range b h).0, (upper_range b h).1)
-sign_not_upper Less b h e = omega (arith, (upper_range b h).0, (upper_range b h).1)
-sign_not_upper Greater b h e = omega (arith, (upper_range b h).0, (upper_range b h).1)
-sign_not_upper LeftBracket b h e = omega (arith, (upper_range b h).0, (upper_range b h).1)
-sign_not_upper RightBracket b h e = omega (arith, (upper_range b h).0, (upper_range b h).1)
-sign_not_upper Open b h e = omega (arith, (upper_range b h).0, (upper_range b h).1)
-sign_not_upper Close b h e = omega (arith, (upper_range b h).0, (upper_range b h).1)
-sign_not_upper Dot b h e = omega (arith, (upper_range b h).0, (upper_range b h).1)
+sign_not_upper Mu b h e = omega (arith, upper_range b h)
+sign_not_upper Nu b h e = omega (arith, upper_range b h)
+sign_not_upper True b h e = omega (arith, upper_range b h)
+sign_not_upper False b h e = omega (arith, upper_range b h)
+sign_not_upper Not b h e = omega (arith, upper_range b h)
+sign_not_upper And b h e = omega (arith, upper_range b h)
+sign_not_upper Or b h e = omega (arith, upper_range b h)
+sign_not_upper Bar b h e = omega (arith, upper_range b h)
+sign_not_upper Less b h e = omega (arith, upper_range b h)
+sign_not_upper Greater b h e = omega (arith, upper_range b h)
+sign_not_upper LeftBracket b h e = omega (arith, upper_range b h)
+sign_not_upper RightBracket b h e = omega (arith, upper_range b h)
+sign_not_upper Open b h e = omega (arith, upper_range b h)
+sign_not_upper Close b h e = omega (arith, upper_range b h)
+sign_not_upper Dot b h e = omega (arith, upper_range b h)
 
 variable_longest : (bs : List ℕ) (at : ℕ) → at < length bs → is_ascii_lowercase (get_or bs at 0) ≡ false → is_ascii_uppercase (get_or bs at 0) ≡ true → Longest bs at (variable (get_or bs at 0 - 65))
 variable_longest bs at lt low up =
@@ -335,11 +318,11 @@ spaces : (bs : List ℕ) (i : ℕ) → Spaces bs i (after_spaces bs i)
 spaces bs i = (omega arith, λ k le lt. at k (omega arith) lt)
   where
     at : (k : ℕ) → k ≡ i + (k - i) → k < after_spaces bs i → get_or bs k 0 ≡ 32
-    at k e lt = eqb-true (get_or bs k 0) 32 (ap (λ n. space (get_or bs n 0)) e ∙ ap space (sym (get_or-drop i bs (k - i) 0)) ∙ leading_holds space (drop i bs) (k - i) (omega arith))
+    at k e lt = eqb-true (get_or bs k 0) 32 (ap (λ n. space (get_or bs n 0)) e ∙ ap space (sym (get_or-drop i bs (k - i) 0)) ∙ prefix_len_passes space (drop i bs) (k - i) 0 (omega arith))
 
 no_space : (bs : List ℕ) (i : ℕ) → after_spaces bs i < length bs → get_or bs (after_spaces bs i) 0 ≡ 32 → ⊥
 no_space bs i lt e =
-    let f = leading_stops space (drop i bs) (omega (arith, length-drop i bs)) in
+    let f = prefix_len_stops space (drop i bs) 0 (omega (arith, length-drop i bs)) in
     let g : space 32 ≡ false = ap space (sym e ∙ sym (get_or-drop i bs (prefix_len space (drop i bs)) 0)) ∙ f in
     let z : ◌≡◌ {A = ℕ} 0 1 = cc in
     omega arith

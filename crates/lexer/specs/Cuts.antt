@@ -1,13 +1,14 @@
 -- How the next token of a text is found.
-use Rattle.std.specs.Prelude.{◌≡◌, ℕ, ◌+◌, ◌-◌, ◌<◌, ◌≤◌, Bool, cond, ◌&&◌, List, length, drop, codes, ◌==◌, ◌≢◌, nat_lt, slice_index}
+use Rattle.std.specs.Prelude.{◌≡◌, ℕ, ◌+◌, ◌-◌, ◌<◌, ◌≤◌, Bool, cond, ◌&&◌, List, length, drop, codes, ◌==◌, ◌≢◌, nat_lt, slice_index, Ok, Err, Result}
 use Rattle.std.specs.Char.{is_ascii_lowercase, is_ascii_uppercase}
 use Rattle.std.specs.Str.{bytes_eq}
 use Rattle.std.specs.List.{prefix_len, between}
 use Rattle.lexer.specs.Tokens.{Sym, name, variable, sign, in_name, spell, Spaces, Longest, Bad}
 use Rattle.lexer.specs.declared.Token.{Token}
 use Rattle.lexer.specs.declared.Token.TheVariants as tk
-use Rattle.lexer.specs.declared.Cut.{Cut}
-use Rattle.lexer.specs.declared.Cut.TheVariants as ct
+use Rattle.lexer.specs.declared.Found.{Found}
+use Rattle.lexer.specs.declared.Stop.{Stop}
+use Rattle.lexer.specs.declared.Stop.TheVariants as st
 use Rattle.lexer.specs.declared.Sign.{Sign}
 use Rattle.lexer.specs.declared.Sign.TheVariants.{Mu, Nu, True, False, Not, And, Or, Bar, Less, Greater, LeftBracket, RightBracket, Open, Close, Dot}
 
@@ -22,10 +23,10 @@ sym_of (tk.Name bs p) = name bs.now
 sym_of (tk.Variable v) = variable v
 sym_of (tk.Sign s) = sign s
 
-abbrev pub seen : Cut → Seen
-seen (ct.Found t s e) = found (sym_of t) s e
-seen (ct.End p) = end p
-seen (ct.Bad p) = bad p
+abbrev pub seen : Result Found Stop → Seen
+seen (Ok f) = found (sym_of f.token) f.start f.end
+seen (Err (st.End p)) = end p
+seen (Err (st.Bad p)) = bad p
 
 -- A name has its place.
 abbrev pub Placed : Token → ℕ → Type 0
@@ -34,10 +35,10 @@ Placed (tk.Variable v) q = Unit {0}
 Placed (tk.Sign s) q = Unit {0}
 
 -- A token starts no sooner than asked for, has a byte and ends within the n bytes; the end is that of the text.
-abbrev pub Onward : Cut → ℕ → ℕ → Type 0
-Onward (ct.Found t s e) i n = (i ≤ s) × (s < e) × (e ≤ n) × Placed t s
-Onward (ct.End p) i n = (i ≤ p) × (i ≤ n → p ≡ n)
-Onward (ct.Bad p) i n = (i ≤ p) × (p < n)
+abbrev pub Onward : Result Found Stop → ℕ → ℕ → Type 0
+Onward (Ok f) i n = (i ≤ f.start) × (f.start < f.end) × (f.end ≤ n) × Placed f.token f.start
+Onward (Err (st.End p)) i n = (i ≤ p) × (i ≤ n → p ≡ n)
+Onward (Err (st.Bad p)) i n = (i ≤ p) × (p < n)
 
 abbrev pub space : ℕ → Bool
 space b = b == 32

@@ -1,10 +1,12 @@
 // Cuts a formula text into tokens.
 #![tactic(auto)]
 
-ghost use Rattle.std.specs.Prelude.{◌≡◌, ℕ, ◌+◌, ◌<◌, ◌≤◌, T, ◌↔◌, length, slice_index};
-ghost use Rattle.std.specs.Str.{bytes_eq};
+ghost use Rattle.std.specs.Prelude.{◌≡◌, ℕ, ◌+◌, ◌<◌, ◌≤◌, T, ◌↔◌, length, drop, slice_index};
 ghost use Rattle.lexer.specs.Tokens.{Name, NoWord, in_name};
 ghost use Rattle.lexer.specs.Cuts.{after_spaces, after_name, word_of, sym_of, seen, first_at, cut_at, Onward, Placed, Lawful};
+
+// How many bytes a name has at most.
+const LONGEST_NAME: usize = 12;
 
 // The tokens that are always spelled alike: `mu nu true false ! && || | < > [ ] ( ) .`
 #[derive(Clone, Copy, PartialEq, Eq)]
@@ -35,13 +37,26 @@ pub enum Token<'a> {
     Sign(Sign),
 }
 
-// What comes next in a text: a token, its place and the place where the text goes on; the text's end; or a
-// place where no token begins.
+// A token that was found in a text, from its place up to the place where the text goes on.
 #[derive(Clone, Copy)]
-pub enum Cut<'a> {
-    Found(Token<'a>, usize, usize),
+pub struct Found<'a> {
+    pub token: Token<'a>,
+    pub start: usize,
+    pub end: usize,
+}
+
+// Why no token was found: the text ends, or no token begins at the next byte. Each has its place.
+#[derive(Clone, Copy, PartialEq, Eq)]
+pub enum Stop {
     End(usize),
     Bad(usize),
+}
+
+// The bytes from a place on: none past the end.
+fn rest(text: &[u8], from: usize) -> &[u8]
+    ensures { result.now ≡ drop from text.now }
+{
+    text.get(from..).unwrap_or(&[])
 }
 
 fn past_spaces(text: &[u8], from: usize) -> usize
@@ -49,39 +64,24 @@ fn past_spaces(text: &[u8], from: usize) -> usize
     ensures within { from ≤ length text.now → result ≤ length text.now }
     ensures on { from ≤ result }
 {
-    let mut at = from;
-    while at < text.len() && text[at] == b' ' {
-        at += 1;
-    }
-    at
+    from + rest(text, from).iter().take_while(|b| **b == b' ').count()
 }
 
 fn is_in_name(c: char) -> bool
     ensures { result ≡ in_name c }
 {
-    match c {
-        'a'..='z' | '0'..='9' => true,
-        _ => false,
-    }
+    matches!(c, 'a'..='z' | '0'..='9')
 }
 
 fn past_name(text: &[u8], from: usize) -> usize
-    requires { from ≤ length text.now }
     ensures value { result ≡ after_name text.now from }
-    ensures within { result ≤ length text.now }
+    ensures within { from ≤ length text.now → result ≤ length text.now }
     ensures on { from ≤ result }
 {
-    let mut at = from;
-    while at < text.len() && is_in_name(text[at] as char) {
-        at += 1;
-    }
-    at
-}
-
-fn is_word(bytes: &[u8], word: &[u8]) -> bool
-    ensures { result ≡ bytes_eq bytes.now word.now }
-{
-    bytes == word
+    from + rest(text, from)
+        .iter()
+        .take_while(|b| is_in_name(**b as char))
+        .count()
 }
 
 // A run of small letters and digits as a token: one of the four words, or a name.
@@ -89,60 +89,64 @@ fn word<'a>(bytes: &'a [u8], place: usize) -> Token<'a>
     ensures value { sym_of result ≡ word_of bytes.now }
     ensures place { Placed result place }
 {
-    if is_word(bytes, b"mu") {
+    if bytes == b"mu".as_slice() {
         Token::Sign(Sign::Mu)
-    } else if is_word(bytes, b"nu") {
+    } else if bytes == b"nu".as_slice() {
         Token::Sign(Sign::Nu)
-    } else if is_word(bytes, b"true") {
+    } else if bytes == b"true".as_slice() {
         Token::Sign(Sign::True)
-    } else if is_word(bytes, b"false") {
+    } else if bytes == b"false".as_slice() {
         Token::Sign(Sign::False)
     } else {
         Token::Name(bytes, place)
     }
 }
 
-// The byte at a place, or 0 past the end.
+// The byte at a place, or 0 past the end: 0 begins no token and pairs with none, so a guard needs no Option.
 fn byte_at(text: &[u8], at: usize) -> u8
     ensures { result ≡ slice_index text.now at }
 {
-    if at < text.len() { text[at] } else { 0 }
+    text.get(at).copied().unwrap_or(0)
 }
 
 // The longest token at a place where a byte stands.
-fn first_token<'a>(text: &'a [u8], at: usize) -> Cut<'a>
+fn first_token<'a>(text: &'a [u8], at: usize) -> Result<Found<'a>, Stop>
     requires { at < length text.now }
     ensures value { seen result ≡ first_at text.now at }
     ensures onward { Onward result at (length text.now) }
 {
     let next = byte_at(text, at + 1) as char;
-    let sign = match text[at] as char {
+    let (token, end) = match text[at] as char {
         'a'..='z' => {
             let end = past_name(text, at);
-            if end - at > 12 {
-                return Cut::Bad(at);
+            if end - at > LONGEST_NAME {
+                return Err(Stop::Bad(at));
             }
-            return Cut::Found(word(&text[at..end], at), at, end);
+            (word(&text[at..end], at), end)
         }
-        'A'..='Z' => return Cut::Found(Token::Variable(text[at] - b'A'), at, at + 1),
-        '&' if next == '&' => return Cut::Found(Token::Sign(Sign::And), at, at + 2),
-        '|' if next == '|' => return Cut::Found(Token::Sign(Sign::Or), at, at + 2),
-        '|' => Sign::Bar,
-        '!' => Sign::Not,
-        '<' => Sign::Less,
-        '>' => Sign::Greater,
-        '[' => Sign::LeftBracket,
-        ']' => Sign::RightBracket,
-        '(' => Sign::Open,
-        ')' => Sign::Close,
-        '.' => Sign::Dot,
-        _ => return Cut::Bad(at),
+        'A'..='Z' => (Token::Variable(text[at] - b'A'), at + 1),
+        '&' if next == '&' => (Token::Sign(Sign::And), at + 2),
+        '|' if next == '|' => (Token::Sign(Sign::Or), at + 2),
+        '|' => (Token::Sign(Sign::Bar), at + 1),
+        '!' => (Token::Sign(Sign::Not), at + 1),
+        '<' => (Token::Sign(Sign::Less), at + 1),
+        '>' => (Token::Sign(Sign::Greater), at + 1),
+        '[' => (Token::Sign(Sign::LeftBracket), at + 1),
+        ']' => (Token::Sign(Sign::RightBracket), at + 1),
+        '(' => (Token::Sign(Sign::Open), at + 1),
+        ')' => (Token::Sign(Sign::Close), at + 1),
+        '.' => (Token::Sign(Sign::Dot), at + 1),
+        _ => return Err(Stop::Bad(at)),
     };
-    Cut::Found(Token::Sign(sign), at, at + 1)
+    Ok(Found {
+        token,
+        start: at,
+        end,
+    })
 }
 
 // The token that comes next from a place on, with spaces skipped.
-pub fn next_token<'a>(text: &'a [u8], from: usize) -> Cut<'a>
+pub fn next_token<'a>(text: &'a [u8], from: usize) -> Result<Found<'a>, Stop>
     ensures longest { Lawful text.now from (seen result) }
     ensures value { seen result ≡ cut_at text.now from }
     ensures onward { Onward result from (length text.now) }
@@ -151,7 +155,7 @@ pub fn next_token<'a>(text: &'a [u8], from: usize) -> Cut<'a>
     if at < text.len() {
         first_token(text, at)
     } else {
-        Cut::End(at)
+        Err(Stop::End(at))
     }
 }
 
@@ -159,21 +163,14 @@ pub fn next_token<'a>(text: &'a [u8], from: usize) -> Cut<'a>
 pub fn is_name(bytes: &[u8]) -> bool
     ensures { T result ↔ Name bytes.now }
 {
-    if bytes.len() > 12 || past_name(bytes, 0) < bytes.len() {
-        return false;
-    }
-    match byte_at(bytes, 0) as char {
-        'a'..='z' => is_no_word(bytes),
-        _ => false,
-    }
+    bytes.len() <= LONGEST_NAME
+        && past_name(bytes, 0) == bytes.len()
+        && byte_at(bytes, 0).is_ascii_lowercase()
+        && is_no_word(bytes)
 }
 
 fn is_no_word(bytes: &[u8]) -> bool
     ensures { T result ↔ NoWord bytes.now }
 {
-    match word(bytes, 0) {
-        Token::Name(_name, _place) => true,
-        Token::Variable(_v) => false,
-        Token::Sign(_sign) => false,
-    }
+    matches!(word(bytes, 0), Token::Name(_, _))
 }

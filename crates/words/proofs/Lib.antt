@@ -1,3 +1,2 @@
-pub mod Lines
+pub mod Cut
 pub mod Numbers
-pub mod Forms

@@ -18,11 +18,15 @@ pub record Lines (bs : List ℕ) (ws : List (List ℕ)) : Type 0 where
   pub ended : bs ≡ listed ws
   pub clean : AllByRecursion (λ w. AllByRecursion (λ b. inside b ≡ true) w) ws
 
+-- None of the words stands twice.
+abbrev pub Apart : List (List ℕ) → Type 0
+Apart ws = (i j : ℕ) → i < j → j < length ws → slice_index_or ws i [] ≢ slice_index_or ws j []
+
 -- The names of a word list: it is their bytes, each ended by byte 10; no name stands twice, and there are at most so many.
 pub record WordList (limit : ℕ) (bs : List ℕ) (ws : List (List ℕ)) : Type 0 where
   pub ended : bs ≡ listed ws
   pub names : AllByRecursion Name ws
-  pub apart : (i j : ℕ) → i < j → j < length ws → slice_index_or ws i [] ≢ slice_index_or ws j []
+  pub apart : Apart ws
   pub few : length ws ≤ limit
 
 -- A list keeps its form.

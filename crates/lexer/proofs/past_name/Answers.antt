@@ -1,22 +1,11 @@
-use Rattle.std.proofs.Common.{sym, ◌∙◌, arith}
+use Rattle.std.proofs.Common.{◌+◌, drop, ap, ◌∙◌, rules, tests}
+use Rattle.std.proofs.lemmas.Iterator.{YieldsList-from_slice}
+use Rattle.std.proofs.lemmas.Iterator.Consumers.{YieldsList-at, count_from_yields_List}
+use Rattle.std.proofs.lemmas.Iterator.Search.{YieldsList-from_take_while}
+use Rattle.std.proofs.lemmas.List.Folds.{length-prefix_len}
 use Rattle.lexer.specs.Tokens.{in_name}
-use Rattle.std.proofs.lemmas.List.Sums.{prefix_len-drop_yes, prefix_len-drop_no, prefix_len-drop_all}
 use Rattle.lexer.proofs.past_name.Goals as goal
 
-pub loop-at-preserved : goal.loop-at-preserved
-loop-at-preserved c =
-    (omega (arith, c.loop-at.invariant.0, prefix_len-drop_yes in_name c.args.text.now c.loop-at.at 0 c.loop-at-test.true (sym c.is_in_name.ensures ∙ c.if-is_in_name.true)), omega arith, omega arith)
-
-pub returns-else-is_in_name : goal.returns-else-is_in_name
-returns-else-is_in_name c = record {
-  value = omega (arith, c.loop-at.invariant.0, prefix_len-drop_no in_name c.args.text.now c.loop-at.at 0 c.loop-at-test.true (sym c.is_in_name.ensures ∙ c.if-is_in_name.false));
-  within = omega arith;
-  on = omega arith;
-}
-
-pub returns-after-loop-at : goal.returns-after-loop-at
-returns-after-loop-at c = record {
-  value = omega (arith, c.loop-at.invariant.0, prefix_len-drop_all in_name c.args.text.now c.loop-at.at c.loop-at-test.false);
-  within = omega arith;
-  on = omega arith;
-}
+pub returns-clause-value : goal.returns-clause-value
+returns-clause-value c =
+    ap (λ n. c.args.from + n) (count_from_yields_List c.take_while.result c.count.result c.count.ensures.ran (YieldsList-from_take_while _ in_name (YieldsList-at c.take_while.ensures.source (YieldsList-from_slice (drop c.args.from c.args.text.now) cc)) c.take_while.ensures.closure c.take_while.ensures.done (λ x b q k. search (rules, tests))) ∙ length-prefix_len in_name (drop c.args.from c.args.text.now))
