@@ -7,10 +7,10 @@ use Rattle.formulas.specs.declared.Expr.TheVariants as ex
 use Rattle.formulas.specs.declared.Node.TheVariants as nd
 use Rattle.grammar.specs.Grammar.{Tok, Tree, FormulaOf}
 use Rattle.reader.specs.Reading.{Lexes, Source, filled}
-use Rattle.reader.specs.Outcome.{numbering, Fit, Formed, Tried, no_formula, unknown_name, too_many, accepted, Attempted, Parsed, offends, parsed, Judged}
-use Rattle.reader.specs.declared.Refusal.{Refusal}
-use Rattle.reader.specs.declared.Refusal.TheVariants as rf
-use Rattle.reader.proofs.Texts.{tokens_of}
+use Rattle.reader.specs.Outcome.{numbering, Fit, Formed, Lexed, Tried, no_token, no_formula, unknown_name, too_many, accepted, Attempted, Parsed, offends, parsed, Judged}
+use Rattle.reader.specs.declared.refusals.Refusal.{Refusal}
+use Rattle.reader.specs.declared.refusals.Refusal.TheVariants as rf
+use Rattle.reader.proofs.Texts.{tokens_of, no_token_at}
 
 take_past : {X : Type 0} (xs ys : List X) (k n : ℕ) → n ≡ length xs + k → take n (xs ++ ys) ≡ xs ++ take k ys
 take_past [] ys k n e = let f : n ≡ k = omega arith in ap (λ i. take i ys) f
@@ -24,6 +24,16 @@ module _ (text actions features : List ℕ) (n m : ℕ) (av fv : List (List ℕ)
   abbrev pub source : Source
   source = record { text = text; actions = actions; features = features; action_names = av; feature_names = fv; known_actions = fit.action_list; known_features = fit.feature_list; nodes = m; exprs = n }
 
+  -- a text that does not fall into tokens
+  pub untokened : (es : List Expr) (ns : List Node) (r : Refusal) → Lexed text (Err r) → Attempted text actions features n m es ns (Err r)
+  untokened es ns rf.ShortTable l = absurd l
+  untokened es ns rf.LongText l = absurd l
+  untokened es ns rf.WordList l = absurd l
+  untokened es ns (rf.NoToken p) l = no_token av fv p fit (no_token_at text l)
+  untokened es ns (rf.NoFormula p) l = absurd l
+  untokened es ns (rf.UnknownName p) l = absurd l
+  untokened es ns rf.TooManyEntries l = absurd l
+
   module _ (ts : List Tok) (lexed : Lexes text 0 ts) (room : (64 ≤ n) × (64 ≤ m)) where
     formed : (f : Tree) → FormulaOf ts f → Formed text actions features av fv f
     formed f d = record { fit = fit; tokens = ts; lexed = tokens_of text (omega arith) lexed; derived = d }
@@ -33,6 +43,7 @@ module _ (text actions features : List ℕ) (n m : ℕ) (av fv : List (List ℕ)
         let fe = e ∙ filled_fits n ex.False (numbering av fv f).exprs (omega (arith, j.2, room.0)) in
         let fn = i ∙ filled_fits m nd.False (numbering av fv f).nodes (omega (arith, j.1, room.1)) in
         subst (λ k. Tried text actions features n m 0 k es ns) (sym j.3) (subst (λ es. Tried text actions features n m 0 (length (numbering av fv f).nodes) es ns) (sym fe) (subst (λ ns. Tried text actions features n m 0 (length (numbering av fv f).nodes) ((numbering av fv f).exprs ++ replicate (n - length (numbering av fv f).exprs) ex.False) ns) (sym fn) (accepted av fv f (formed f d) j.0 j.1 j.2)))
+    judged es ns f d e i (Err rf.ShortTable) j = absurd j
     judged es ns f d e i (Err rf.LongText) j = absurd j
     judged es ns f d e i (Err rf.WordList) j = absurd j
     judged es ns f d e i (Err (rf.NoToken p)) j = absurd j

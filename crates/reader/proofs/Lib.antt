@@ -1,4 +1,4 @@
-pub mod Tables
+pub mod Filled
 pub mod Steps
 pub mod Trees
 pub mod Whole

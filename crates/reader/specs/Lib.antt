@@ -1,3 +1,5 @@
+pub mod Shapes
+pub mod Refusals
 pub mod Numbering
 pub mod Reading
 pub mod Texts

@@ -4,7 +4,12 @@ use Rattle.formulas.specs.declared.Expr.{Expr}
 use Rattle.formulas.specs.declared.Expr.TheVariants as ex
 use Rattle.formulas.specs.declared.Node.{Node}
 use Rattle.formulas.specs.declared.Node.TheVariants as nd
-use Rattle.grammar.specs.Grammar.{Level, formula, expression, Modality, diamond, box, Fixpoint, least, greatest, Tree, bottom, top, negation, disjunction, conjunction, feature, var, modal, fixpoint}
+use Rattle.reader.specs.declared.shapes.Shape.{Shape}
+use Rattle.reader.specs.declared.shapes.Shape.TheVariants.{False as is_false, True as is_true, Not as is_not, Or as is_or, And as is_and}
+use Rattle.reader.specs.Shapes.{as_node, as_expr}
+use Rattle.grammar.specs.Grammar.{Modality, diamond, box, Fixpoint, least, greatest, Tree, bottom, top, negation, disjunction, conjunction, feature, var, modal, fixpoint}
+use Rattle.grammar.specs.declared.Level.{Level}
+use Rattle.grammar.specs.declared.Level.TheVariants.{Formula as formula, Expression as expression}
 
 -- What has been entered so far: both tables, and the places of names that have no number.
 pub record Tables : Type 0 where
@@ -29,26 +34,6 @@ note None p t = record { nodes = t.nodes; exprs = t.exprs; unknown = t.unknown +
 abbrev pub or_0 : Option ℕ → ℕ
 or_0 (Some k) = k
 or_0 None = 0
-
--- The entries that both tables have.
-pub data Shape : Type 0 where
-  is_false is_true : Shape
-  is_not : ℕ → Shape
-  is_or is_and : ℕ → ℕ → Shape
-
-abbrev pub as_node : Shape → Node
-as_node is_false = nd.False
-as_node is_true = nd.True
-as_node (is_not c) = nd.Not c
-as_node (is_or c d) = nd.Or c d
-as_node (is_and c d) = nd.And c d
-
-abbrev pub as_expr : Shape → Expr
-as_expr is_false = ex.False
-as_expr is_true = ex.True
-as_expr (is_not c) = ex.Not c
-as_expr (is_or c d) = ex.Or c d
-as_expr (is_and c d) = ex.And c d
 
 abbrev pub put : Level → Shape → Tables → Tables
 put formula s t = put_node (as_node s) t

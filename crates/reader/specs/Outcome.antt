@@ -1,5 +1,5 @@
 -- What reading a text gives, and what both tables hold then.
-use Rattle.std.specs.Prelude.{◌≡◌, ℕ, ◌-◌, ◌<◌, ◌≤◌, ◌⊎◌, List, [], ◌∷◌, ◌++◌, length, replicate, Some, None, Ok, Err, Option, Result}
+use Rattle.std.specs.Prelude.{◌≡◌, ℕ, ◌-◌, ◌<◌, ◌≤◌, ◌⊎◌, List, [], ◌∷◌, ◌++◌, length, replicate, Ok, Err, Result}
 use Rattle.lexer.specs.Tokens.{Sym}
 use Rattle.lexer.specs.Cuts.{cut_at, found, bad}
 use Rattle.words.specs.Words.{WordList, InForm, number}
@@ -7,13 +7,15 @@ use Rattle.formulas.specs.declared.Expr.{Expr}
 use Rattle.formulas.specs.declared.Expr.TheVariants as ex
 use Rattle.formulas.specs.declared.Node.{Node}
 use Rattle.formulas.specs.declared.Node.TheVariants as nd
-use Rattle.grammar.specs.Grammar.{Tok, formula, Tree, FormulaOf}
+use Rattle.grammar.specs.Grammar.{Tok, Tree, FormulaOf}
+use Rattle.grammar.specs.declared.Level.TheVariants.{Formula as formula}
 use Rattle.grammar.specs.Viable.{Offends}
 use Rattle.reader.specs.Numbering.{Tables, none_entered, enter}
 use Rattle.reader.specs.Reading.{Lexes, place_of, Source, entered, filled}
 use Rattle.reader.specs.Texts.{TokensOf, NoTokenAt}
-use Rattle.reader.specs.declared.Refusal.{Refusal}
-use Rattle.reader.specs.declared.Refusal.TheVariants as rf
+use Rattle.reader.specs.declared.refusals.Refusal.{Refusal}
+use Rattle.reader.specs.declared.refusals.Refusal.TheVariants as rf
+pub use Rattle.reader.specs.Refusals.{refusal_number, refusal_value, answer_number, answer_value}
 
 -- The entries of a formula, whose actions and features are named by two lists of names.
 abbrev pub numbering : List (List ℕ) → List (List ℕ) → Tree → Tables
@@ -50,22 +52,6 @@ pub data Reading (text actions features : List ℕ) (es : List Expr) (ns : List 
 
 -- ---- what the parts of the reader say
 
-abbrev pub refusal_number : Refusal → ℕ
-refusal_number rf.LongText = 20
-refusal_number rf.WordList = 21
-refusal_number (rf.NoToken p) = 22
-refusal_number (rf.NoFormula p) = 23
-refusal_number (rf.UnknownName p) = 24
-refusal_number rf.TooManyEntries = 25
-
-abbrev pub refusal_value : Refusal → ℕ
-refusal_value rf.LongText = 0
-refusal_value rf.WordList = 0
-refusal_value (rf.NoToken p) = p
-refusal_value (rf.NoFormula p) = p
-refusal_value (rf.UnknownName p) = p
-refusal_value rf.TooManyEntries = 0
-
 abbrev pub Attempted : List ℕ → List ℕ → List ℕ → ℕ → ℕ → List Expr → List Node → Result ℕ Refusal → Type 0
 Attempted text actions features n m es ns (Ok k) = Tried text actions features n m 0 k es ns
 Attempted text actions features n m es ns (Err r) = Tried text actions features n m (refusal_number r) (refusal_value r) (replicate n ex.False) (replicate m nd.False)
@@ -75,9 +61,16 @@ pub data NoToken (bs : List ℕ) : ℕ → ℕ → Type 0 where
   bad_here : (i p : ℕ) → cut_at bs i ≡ bad p → NoToken bs i p
   bad_later : (i : ℕ) (s : Sym) (q j p : ℕ) → cut_at bs i ≡ found s q j → NoToken bs j p → NoToken bs i p
 
-abbrev pub Lexed : List ℕ → Option ℕ → Type 0
-Lexed bs (Some p) = NoToken bs 0 p
-Lexed bs None = (ts : List Tok) × Lexes bs 0 ts
+-- A text falls into tokens, or is refused at that place.
+abbrev pub Lexed : List ℕ → Result (Unit {0}) Refusal → Type 0
+Lexed bs (Ok u) = (ts : List Tok) × Lexes bs 0 ts
+Lexed bs (Err rf.ShortTable) = ⊥
+Lexed bs (Err rf.LongText) = ⊥
+Lexed bs (Err rf.WordList) = ⊥
+Lexed bs (Err (rf.NoToken p)) = NoToken bs 0 p
+Lexed bs (Err (rf.NoFormula p)) = ⊥
+Lexed bs (Err (rf.UnknownName p)) = ⊥
+Lexed bs (Err rf.TooManyEntries) = ⊥
 
 -- What the parser is given.
 pub record Ready (x : Source) (ts : List Tok) (text actions features : List ℕ) (es : List Expr) (ns : List Node) : Type 0 where
@@ -91,6 +84,7 @@ pub record Ready (x : Source) (ts : List Tok) (text actions features : List ℕ)
 -- What is said of tables that have been entered.
 abbrev pub Judged : Tables → Result ℕ Refusal → Type 0
 Judged t (Ok n) = (t.unknown ≡ []) × (length t.nodes ≤ 64) × (length t.exprs ≤ 64) × (n ≡ length t.nodes)
+Judged t (Err rf.ShortTable) = ⊥
 Judged t (Err rf.LongText) = ⊥
 Judged t (Err rf.WordList) = ⊥
 Judged t (Err (rf.NoToken p)) = ⊥

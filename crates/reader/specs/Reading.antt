@@ -1,16 +1,20 @@
 -- What the reader's functions do to the reader.
 use Rattle.std.specs.Prelude.{◌≡◌, ℕ, ◌+◌, ◌<◌, ◌≤◌, List, [], ◌∷◌, ◌++◌, length, take, replicate, Some, None, Ok, Err, Option, Result}
 use Rattle.lexer.specs.Tokens.{Sym, name, variable, sign}
-use Rattle.lexer.specs.Cuts.{cut_at, found, end}
+use Rattle.lexer.specs.Cuts.{cut_at, found, end, sym_of, Placed}
 use Rattle.lexer.specs.declared.Sign.{Sign}
-use Rattle.lexer.specs.declared.Sign.TheVariants.{Bar, Dot}
+use Rattle.lexer.specs.declared.Sign.TheVariants.{Dot}
 use Rattle.words.specs.Words.{WordList, number}
 use Rattle.formulas.specs.declared.Expr.TheVariants as ex
 use Rattle.formulas.specs.declared.Node.TheVariants as nd
-use Rattle.grammar.specs.Grammar.{Tok, tok, Level, expression, Modality, closing, Tree, Ending, PhraseOf}
-use Rattle.grammar.specs.Machine.{Part, Inner, bar, dot, sign_of, inner_of, Item, expect, a_variable, an_action, whole, fail, walk, NotNext, Ended}
-use Rattle.reader.specs.Numbering.{Tables, note, or_0, last, enter}
-use Rattle.reader.specs.declared.Reader.{Reader}
+use Rattle.grammar.specs.Grammar.{Tok, tok, Tree, Ending}
+use Rattle.grammar.specs.declared.Level.{Level}
+use Rattle.grammar.specs.declared.Level.TheVariants.{Expression as expression}
+use Rattle.grammar.specs.Machine.{Part, Inner, dot, sign_of, Item, expect, a_variable, an_action, fail, walk, NotNext, Ended}
+use Rattle.reader.specs.Numbering.{Tables, put_expr, note, or_0, last, enter}
+use Rattle.reader.specs.declared.refusals.Offence.{Offence}
+use Rattle.reader.specs.declared.parser.Reader.{Reader}
+use Rattle.lexer.specs.declared.Found.{Found}
 
 -- The tokens of a text from a place on.
 pub data Lexes (bs : List ℕ) : ℕ → List Tok → Type 0 where
@@ -48,41 +52,58 @@ first_of (p ∷ ps) = Some p
 -- The reader has read up to the tokens ts and has entered the tables t.
 pub record State (x : Source) (r : Reader) (ts : List Tok) (t : Tables) : Type 0 where
   pub text : r.text.now ≡ x.text
-  pub actions : r.actions.now ≡ x.actions
-  pub features : r.features.now ≡ x.features
+  pub actions : r.actions.list.now ≡ x.actions
+  pub features : r.features.list.now ≡ x.features
   pub tokens : Lexes x.text r.at ts
-  pub nodes : r.nodes.now ≡ filled x.nodes nd.False t.nodes
-  pub exprs : r.exprs.now ≡ filled x.exprs ex.False t.exprs
-  pub node_count : r.node_count ≡ length t.nodes
-  pub expr_count : r.expr_count ≡ length t.exprs
+  pub nodes : r.nodes.now.entries.now ≡ filled x.nodes nd.False t.nodes
+  pub exprs : r.exprs.now.entries.now ≡ filled x.exprs ex.False t.exprs
+  pub node_count : r.nodes.now.count ≡ length t.nodes
+  pub expr_count : r.exprs.now.count ≡ length t.exprs
   pub unknown : r.unknown ≡ first_of t.unknown
 
 -- The reader is within the text, and has entered no more than it has read.
 pub record Inside (r : Reader) : Type 0 where
   pub within : r.at ≤ length r.text.now
-  pub few_nodes : r.node_count ≤ r.at
-  pub few_exprs : r.expr_count ≤ r.at
+  pub few_nodes : r.nodes.now.count ≤ r.at
+  pub few_exprs : r.exprs.now.count ≤ r.at
+
+-- The reader's tables stay those that it was lent.
+pub record SameTables (a b : Reader) : Type 0 where
+  pub nodes : b.nodes.ghost_name ≡ a.nodes.ghost_name
+  pub exprs : b.exprs.ghost_name ≡ a.exprs.ghost_name
+  pub node_entries : b.nodes.now.entries.ghost_name ≡ a.nodes.now.entries.ghost_name
+  pub expr_entries : b.exprs.now.entries.ghost_name ≡ a.exprs.now.entries.ghost_name
 
 -- The reader stays at its place, and keeps its tables.
 pub record Keeps (a b : Reader) : Type 0 where
   pub text : b.text.now ≡ a.text.now
   pub at : b.at ≡ a.at
-  pub nodes : b.nodes.ghost_name ≡ a.nodes.ghost_name
-  pub exprs : b.exprs.ghost_name ≡ a.exprs.ghost_name
+  pub tables : SameTables a b
+
+-- The reader enters at most one entry.
+pub record Grows (a b : Reader) : Type 0 where
+  pub nodes : b.nodes.now.count ≤ a.nodes.now.count + 1
+  pub exprs : b.exprs.now.count ≤ a.exprs.now.count + 1
 
 -- The reader goes on in the text, enters no more than it reads, and keeps its tables.
 pub record Onto (a b : Reader) : Type 0 where
   pub text : b.text.now ≡ a.text.now
   pub on : a.at ≤ b.at
   pub within : b.at ≤ length b.text.now
-  pub few_nodes : b.node_count + a.at ≤ a.node_count + b.at
-  pub few_exprs : b.expr_count + a.at ≤ a.expr_count + b.at
-  pub nodes : b.nodes.ghost_name ≡ a.nodes.ghost_name
-  pub exprs : b.exprs.ghost_name ≡ a.exprs.ghost_name
+  pub few_nodes : b.nodes.now.count + a.at ≤ a.nodes.now.count + b.at
+  pub few_exprs : b.exprs.now.count + a.at ≤ a.exprs.now.count + b.at
+  pub tables : SameTables a b
 
 -- One entry more, with the number n.
 abbrev pub Enters : Level → (Tables → Tables) → Reader → Reader → ℕ → Type 0
 Enters l f a b n = (x : Source) (ts : List Tok) (t : Tables) → State x a ts t → State x b ts (f t) × (n ≡ last l (f t))
+
+-- A feature's name that stands at p is entered with the number n at the level of expressions; at the other it stops the reader there.
+abbrev pub Features : Level → List ℕ → ℕ → Reader → Reader → Result ℕ Offence → Type 0
+Features l w p a b (Ok n) =
+    (l ≡ expression)
+    × ((x : Source) (ts : List Tok) (t : Tables) → State x a ts t → State x b ts (put_expr (ex.Feature (or_0 (number x.feature_names w))) (note (number x.feature_names w) p t)) × (n ≡ last expression (put_expr (ex.Feature (or_0 (number x.feature_names w))) (note (number x.feature_names w) p t))))
+Features l w p a b (Err o) = ¬ (l ≡ expression) × (o.0 ≡ p)
 
 -- A name that stands at p is noted if it has no number.
 abbrev pub Notes : Option ℕ → ℕ → Reader → Reader → Type 0
@@ -107,48 +128,39 @@ pub record Stuck (k : List Item) (bs : List ℕ) (p : ℕ) (ts : List Tok) : Typ
   pub fails : (j : List Item) (ps : List Part) → walk (k ++ j) ps ts ≡ fail rest
   pub place : p ≡ place_of bs rest
 
-abbrev pub Answer : {X : Type 0} → List Item → (Reader → X → List Tok → Tables → Source → Type 0) → Reader → Reader → Result X ℕ → Type 0
+abbrev pub Answer : {X : Type 0} → List Item → (Reader → X → List Tok → Tables → Source → Type 0) → Reader → Reader → Result X Offence → Type 0
 Answer k D a b (Ok n) = (x : Source) (ts : List Tok) (t : Tables) → State x a ts t → D b n ts t x
-Answer k D a b (Err p) = (x : Source) (ts : List Tok) (t : Tables) → State x a ts t → Stuck k x.text p ts
+Answer k D a b (Err p) = (x : Source) (ts : List Tok) (t : Tables) → State x a ts t → Stuck k x.text p.0 ts
 
-abbrev pub Reads : Level → (Ending → List Tok → Tree → Type 0) → (List Tok → Type 0) → List Item → Reader → Reader → Result ℕ ℕ → Type 0
+abbrev pub Reads : Level → (Ending → List Tok → Tree → Type 0) → (List Tok → Type 0) → List Item → Reader → Reader → Result ℕ Offence → Type 0
 Reads l R E k a b r = Answer k (λ b n ts t x. Did l R E x b n ts t) a b r
 
 -- The reader goes past tokens, and enters nothing.
-abbrev pub Expects : Inner → Reader → Reader → Result (Unit {0}) ℕ → Type 0
+abbrev pub Expects : Inner → Reader → Reader → Result (Unit {0}) Offence → Type 0
 Expects m a b r = Answer (expect m ∷ []) (λ b u ts t x. (p : ℕ) × (rest : List Tok) × (ts ≡ tok (sign (sign_of m)) p ∷ rest) × State x b rest t) a b r
 
-abbrev pub Variables : Reader → Reader → Result ℕ ℕ → Type 0
+abbrev pub Variables : Reader → Reader → Result ℕ Offence → Type 0
 Variables a b r = Answer (a_variable ∷ []) (λ b v ts t x. (p : ℕ) × (rest : List Tok) × (ts ≡ tok (variable v) p ∷ rest) × State x b rest t) a b r
 
 -- The variable of a fixpoint and the dot after it.
-abbrev pub Heads : Reader → Reader → Result ℕ ℕ → Type 0
+abbrev pub Heads : Reader → Reader → Result ℕ Offence → Type 0
 Heads a b r = Answer (a_variable ∷ expect dot ∷ []) (λ b v ts t x. (p : ℕ) × (q : ℕ) × (rest : List Tok) × (ts ≡ tok (variable v) p ∷ tok (sign Dot) q ∷ rest) × State x b rest t) a b r
 
 -- The action of a modality.
-abbrev pub Actions : Reader → Reader → Result ℕ ℕ → Type 0
+abbrev pub Actions : Reader → Reader → Result ℕ Offence → Type 0
 Actions a b r = Answer (an_action ∷ []) (λ b k ts t x. (w : List ℕ) × (p : ℕ) × (rest : List Tok) × (ts ≡ tok (name w) p ∷ rest) × State x b rest (note (number x.action_names w) p t) × (k ≡ or_0 (number x.action_names w))) a b r
 
--- The action of a modality and its expression, up to its closing sign.
-pub record Modal (m : Modality) (x : Source) (b : Reader) (k n : ℕ) (ts : List Tok) (t : Tables) : Type 0 where
-  pub action : List ℕ
-  pub place : ℕ
-  pub bar_at : ℕ
-  pub how : Ending
-  pub used : List Tok
-  pub tree : Tree
-  pub close_at : ℕ
-  pub rest : List Tok
-  pub split : ts ≡ tok (name action) place ∷ tok (sign Bar) bar_at ∷ (used ++ tok (sign (closing m)) close_at ∷ rest)
-  pub is : PhraseOf expression how used tree
-  pub state : State x b rest (entered x expression tree (note (number x.action_names action) place t))
-  pub action_number : k ≡ or_0 (number x.action_names action)
-  pub number : n ≡ last expression (entered x expression tree (note (number x.action_names action) place t))
-
-abbrev pub Modals : Modality → Reader → Reader → Result (ℕ × ℕ) ℕ → Type 0
-Modals m a b r = Answer (an_action ∷ expect bar ∷ whole expression (expect (inner_of m) ∷ [])) (λ b h ts t x. Modal m x b h.0 h.1 ts t) a b r
+-- The token that comes next, with its place. If none comes, the tokens have ended, at the text's end.
+abbrev pub Peeks : Reader → Result Found Offence → Type 0
+Peeks r (Ok f) = (found (sym_of f.token) f.start f.end ≡ cut_at r.text.now r.at) × (r.at < f.end) × (f.end ≤ length r.text.now) × Placed f.token f.start
+Peeks r (Err p) = (x : Source) (ts : List Tok) (t : Tables) → State x r ts t → (ts ≡ []) × (p.0 ≡ length x.text)
 
 -- Whether the next token is this operator, and where the text goes on past it.
 abbrev pub Next : Sign → Reader → Option ℕ → Type 0
 Next o r (Some j) = (p : ℕ) × (found (sign o) p j ≡ cut_at r.text.now r.at) × (r.at < j) × (j ≤ length r.text.now)
 Next o r None = (x : Source) (ts : List Tok) (t : Tables) → State x r ts t → NotNext o ts
+
+-- The tokens have ended, or go on at a place.
+abbrev pub AtEnd : Reader → Result (Unit {0}) Offence → Type 0
+AtEnd r (Ok u) = (x : Source) (ts : List Tok) (t : Tables) → State x r ts t → ts ≡ []
+AtEnd r (Err p) = (x : Source) (ts : List Tok) (t : Tables) → State x r ts t → (s : Sym) × (rest : List Tok) × (ts ≡ tok s p.0 ∷ rest)

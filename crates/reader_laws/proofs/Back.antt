@@ -7,7 +7,8 @@ use Rattle.formulas.specs.declared.Node.{Node}
 use Rattle.formulas.specs.declared.Node.TheVariants as nd
 use Rattle.formulas.specs.Trees.{Expression, Formula}
 use Rattle.formulas.specs.Tables.{as_expression, as_formula, expression_to, expression_at, formula_to}
-use Rattle.grammar.specs.Grammar.{formula, expression, Modality, diamond, box, Fixpoint, least, greatest, Tree, bottom, top, negation, disjunction, conjunction, feature, var, modal, fixpoint}
+use Rattle.grammar.specs.Grammar.{Modality, diamond, box, Fixpoint, least, greatest, Tree, bottom, top, negation, disjunction, conjunction, feature, var, modal, fixpoint}
+use Rattle.grammar.specs.declared.Level.TheVariants.{Formula as formula, Expression as expression}
 use Rattle.reader.specs.Numbering.{Tables, note, or_0, last, enter, modal_node, fixpoint_node}
 use Rattle.reader_laws.specs.Results.{modal_of, fixpoint_of, expression_of, formula_of}
 use Rattle.reader_laws.proofs.Extends.{Extends, through, pushed, top_entry, last_push, longer, enter_exprs, enter_nodes, enter_some}

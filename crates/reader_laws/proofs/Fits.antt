@@ -8,10 +8,13 @@ use Rattle.formulas.specs.declared.Expr.TheVariants as ex
 use Rattle.formulas.specs.declared.Node.{Node}
 use Rattle.formulas.specs.declared.Node.TheVariants as nd
 use Rattle.lexer.specs.Tokens.{IsToken}
-use Rattle.grammar.specs.Grammar.{Tok, tok, Level, formula, expression, Modality, diamond, box, Fixpoint, least, greatest, Tree, bottom, top, negation, disjunction, conjunction, feature, var, modal, fixpoint, Ending, UnitOf, is_true, is_false, is_not, is_parens, is_feature, is_variable, is_modal, is_fixpoint, AndPartOf, one_unit, more_units, PhraseOf, one_part, more_parts}
+use Rattle.grammar.specs.Grammar.{Tok, tok, Modality, diamond, box, Fixpoint, least, greatest, Tree, bottom, top, negation, disjunction, conjunction, feature, var, modal, fixpoint, Ending, UnitOf, is_true, is_false, is_not, is_parens, is_feature, is_variable, is_modal, is_fixpoint, AndPartOf, one_unit, more_units, PhraseOf, one_part, more_parts}
+use Rattle.grammar.specs.declared.Level.{Level}
+use Rattle.grammar.specs.declared.Level.TheVariants.{Formula as formula, Expression as expression}
 use Rattle.reader.specs.Numbering.{Tables, note, or_0, last, enter, modal_node, fixpoint_node}
 use Rattle.reader.specs.Texts.{TokensOf, no_more, one_more}
-use Rattle.reader_laws.specs.Results.{ExprFits, NodeFits}
+use Rattle.formulas.specs.Judge.{ExprFitsAt}
+use Rattle.formulas.specs.Sound.{Carries}
 use Rattle.reader_laws.proofs.Extends.{Extends, longer, note_exprs, note_nodes, enter_exprs, enter_some}
 use Rattle.reader_laws.proofs.Forests.{same_nodes}
 
@@ -78,31 +81,31 @@ vars bs ts e a l d = phrase_vars d (tokens_ok l)
 
 -- ---- entries
 
-pub more_exprs : (m k : ℕ) (x : Node) → m ≤ k → NodeFits m x → NodeFits k x
-more_exprs m k nd.False le h = tt
-more_exprs m k nd.True le h = tt
-more_exprs m k (nd.Not c) le h = tt
-more_exprs m k (nd.Or c d) le h = tt
-more_exprs m k (nd.And c d) le h = tt
-more_exprs m k (nd.Diamond a e c) le h = (h.0, omega (arith, h.1))
-more_exprs m k (nd.Box a e c) le h = (h.0, omega (arith, h.1))
-more_exprs m k (nd.Variable v) le h = h
-more_exprs m k (nd.Least v c) le h = h
-more_exprs m k (nd.Greatest v c) le h = h
+pub more_exprs : (es fs : List Expr) (x : Node) → length es ≤ length fs → Carries es x → Carries fs x
+more_exprs es fs nd.False le h = tt
+more_exprs es fs nd.True le h = tt
+more_exprs es fs (nd.Not c) le h = tt
+more_exprs es fs (nd.Or c d) le h = tt
+more_exprs es fs (nd.And c d) le h = tt
+more_exprs es fs (nd.Diamond a e c) le h = (h.0, omega (arith, h.1))
+more_exprs es fs (nd.Box a e c) le h = (h.0, omega (arith, h.1))
+more_exprs es fs (nd.Variable v) le h = h
+more_exprs es fs (nd.Least v c) le h = h
+more_exprs es fs (nd.Greatest v c) le h = h
 
-modal_fits : (v : Modality) (m a e c : ℕ) → a ≤ 63 → e < m → NodeFits m (modal_node v a e c)
-modal_fits diamond m a e c h i = (h, i)
-modal_fits box m a e c h i = (h, i)
+modal_fits : (v : Modality) (es : List Expr) (a e c : ℕ) → a ≤ 63 → e < length es → Carries es (modal_node v a e c)
+modal_fits diamond es a e c h i = (h, i)
+modal_fits box es a e c h i = (h, i)
 
-fixpoint_fits : (x : Fixpoint) (m v c : ℕ) → v ≤ 25 → NodeFits m (fixpoint_node x v c)
-fixpoint_fits least m v c h = h
-fixpoint_fits greatest m v c h = h
+fixpoint_fits : (x : Fixpoint) (es : List Expr) (v c : ℕ) → v ≤ 25 → Carries es (fixpoint_node x v c)
+fixpoint_fits least es v c h = h
+fixpoint_fits greatest es v c h = h
 
 abbrev pub ExprsFit : List Expr → Type 0
-ExprsFit xs = Each ExprFits ex.False xs
+ExprsFit xs = Each ExprFitsAt ex.False xs
 
-abbrev pub NodesFit : ℕ → List Node → Type 0
-NodesFit m ns = Each (λ n. NodeFits m) nd.False ns
+abbrev pub NodesFit : List Expr → List Node → Type 0
+NodesFit es ns = Each (λ n. Carries es) nd.False ns
 
 last_below : {X : Type 0} (xs ys : List X) → 0 < length xs → Extends xs ys → length xs - 1 < length ys
 last_below xs ys pos e = omega (arith, longer e)
@@ -121,15 +124,15 @@ module _ (action feat : List ℕ → Option ℕ) (actions : (w : List ℕ) → o
   both_fit a b t = (last_below (ent a t).exprs (ent b (ent a t)).exprs (enter_some action feat expression a t) (enter_exprs action feat expression b (ent a t)), let s = enter_some action feat expression b (ent a t) in omega arith)
 
   pub expr_fit : (a : Tree) (t : Tables) → ExprsFit t.exprs → ExprsFit (ent a t).exprs
-  expr_fit bottom t f = each_push ExprFits ex.False t.exprs ex.False f tt
-  expr_fit top t f = each_push ExprFits ex.False t.exprs ex.True f tt
-  expr_fit (negation a) t f = let s = enter_some action feat expression a t in let h : last expression (ent a t) < length (ent a t).exprs = omega arith in each_push ExprFits ex.False (ent a t).exprs (ex.Not (last expression (ent a t))) (expr_fit a t f) h
-  expr_fit (disjunction a b) t f = each_push ExprFits ex.False (ent b (ent a t)).exprs (ex.Or (last expression (ent a t)) (last expression (ent b (ent a t)))) (expr_fit b (ent a t) (expr_fit a t f)) (both_fit a b t)
-  expr_fit (conjunction a b) t f = each_push ExprFits ex.False (ent b (ent a t)).exprs (ex.And (last expression (ent a t)) (last expression (ent b (ent a t)))) (expr_fit b (ent a t) (expr_fit a t f)) (both_fit a b t)
-  expr_fit (feature w p) t f = each_push ExprFits ex.False (note (feat w) p t).exprs (ex.Feature (or_0 (feat w))) (noted (feat w) p t f) (feats w)
-  expr_fit (var v) t f = each_push ExprFits ex.False t.exprs ex.False f tt
-  expr_fit (modal m w p e a) t f = each_push ExprFits ex.False t.exprs ex.False f tt
-  expr_fit (fixpoint x v a) t f = each_push ExprFits ex.False t.exprs ex.False f tt
+  expr_fit bottom t f = each_push ExprFitsAt ex.False t.exprs ex.False f tt
+  expr_fit top t f = each_push ExprFitsAt ex.False t.exprs ex.True f tt
+  expr_fit (negation a) t f = let s = enter_some action feat expression a t in let h : last expression (ent a t) < length (ent a t).exprs = omega arith in each_push ExprFitsAt ex.False (ent a t).exprs (ex.Not (last expression (ent a t))) (expr_fit a t f) h
+  expr_fit (disjunction a b) t f = each_push ExprFitsAt ex.False (ent b (ent a t)).exprs (ex.Or (last expression (ent a t)) (last expression (ent b (ent a t)))) (expr_fit b (ent a t) (expr_fit a t f)) (both_fit a b t)
+  expr_fit (conjunction a b) t f = each_push ExprFitsAt ex.False (ent b (ent a t)).exprs (ex.And (last expression (ent a t)) (last expression (ent b (ent a t)))) (expr_fit b (ent a t) (expr_fit a t f)) (both_fit a b t)
+  expr_fit (feature w p) t f = each_push ExprFitsAt ex.False (note (feat w) p t).exprs (ex.Feature (or_0 (feat w))) (noted (feat w) p t f) (feats w)
+  expr_fit (var v) t f = each_push ExprFitsAt ex.False t.exprs ex.False f tt
+  expr_fit (modal m w p e a) t f = each_push ExprFitsAt ex.False t.exprs ex.False f tt
+  expr_fit (fixpoint x v a) t f = each_push ExprFitsAt ex.False t.exprs ex.False f tt
 
   pub exprs_fit : (a : Tree) (t : Tables) → ExprsFit t.exprs → ExprsFit (fnt a t).exprs
   exprs_fit bottom t f = f
@@ -142,19 +145,19 @@ module _ (action feat : List ℕ → Option ℕ) (actions : (w : List ℕ) → o
   exprs_fit (modal m w p e a) t f = exprs_fit a (ent e (note (action w) p t)) (expr_fit e (note (action w) p t) (noted (action w) p t f))
   exprs_fit (fixpoint x v a) t f = exprs_fit a t f
 
-  pub nodes_fit : (a : Tree) (t : Tables) → Vars a → NodesFit (length t.exprs) t.nodes → NodesFit (length (fnt a t).exprs) (fnt a t).nodes
-  nodes_fit bottom t v f = each_push (λ n. NodeFits (length t.exprs)) nd.False t.nodes nd.False f tt
-  nodes_fit top t v f = each_push (λ n. NodeFits (length t.exprs)) nd.False t.nodes nd.True f tt
-  nodes_fit (negation a) t v f = each_push (λ n. NodeFits (length (fnt a t).exprs)) nd.False (fnt a t).nodes (nd.Not (last formula (fnt a t))) (nodes_fit a t v f) tt
-  nodes_fit (disjunction a b) t v f = each_push (λ n. NodeFits (length (fnt b (fnt a t)).exprs)) nd.False (fnt b (fnt a t)).nodes (nd.Or (last formula (fnt a t)) (last formula (fnt b (fnt a t)))) (nodes_fit b (fnt a t) v.1 (nodes_fit a t v.0 f)) tt
-  nodes_fit (conjunction a b) t v f = each_push (λ n. NodeFits (length (fnt b (fnt a t)).exprs)) nd.False (fnt b (fnt a t)).nodes (nd.And (last formula (fnt a t)) (last formula (fnt b (fnt a t)))) (nodes_fit b (fnt a t) v.1 (nodes_fit a t v.0 f)) tt
-  nodes_fit (feature w p) t v f = each_push (λ n. NodeFits (length t.exprs)) nd.False t.nodes nd.False f tt
-  nodes_fit (var x) t v f = each_push (λ n. NodeFits (length t.exprs)) nd.False t.nodes (nd.Variable x) f v
+  pub nodes_fit : (a : Tree) (t : Tables) → Vars a → NodesFit t.exprs t.nodes → NodesFit (fnt a t).exprs (fnt a t).nodes
+  nodes_fit bottom t v f = each_push (λ n. Carries t.exprs) nd.False t.nodes nd.False f tt
+  nodes_fit top t v f = each_push (λ n. Carries t.exprs) nd.False t.nodes nd.True f tt
+  nodes_fit (negation a) t v f = each_push (λ n. Carries (fnt a t).exprs) nd.False (fnt a t).nodes (nd.Not (last formula (fnt a t))) (nodes_fit a t v f) tt
+  nodes_fit (disjunction a b) t v f = each_push (λ n. Carries (fnt b (fnt a t)).exprs) nd.False (fnt b (fnt a t)).nodes (nd.Or (last formula (fnt a t)) (last formula (fnt b (fnt a t)))) (nodes_fit b (fnt a t) v.1 (nodes_fit a t v.0 f)) tt
+  nodes_fit (conjunction a b) t v f = each_push (λ n. Carries (fnt b (fnt a t)).exprs) nd.False (fnt b (fnt a t)).nodes (nd.And (last formula (fnt a t)) (last formula (fnt b (fnt a t)))) (nodes_fit b (fnt a t) v.1 (nodes_fit a t v.0 f)) tt
+  nodes_fit (feature w p) t v f = each_push (λ n. Carries t.exprs) nd.False t.nodes nd.False f tt
+  nodes_fit (var x) t v f = each_push (λ n. Carries t.exprs) nd.False t.nodes (nd.Variable x) f v
   nodes_fit (modal m w p e a) t v f =
       let u : Tables = ent e (note (action w) p t) in
       let z : Tables = fnt a u in
       let grown : length t.exprs ≤ length u.exprs = omega (arith, longer (enter_exprs action feat expression e (note (action w) p t)), ap length (note_exprs (action w) p t)) in
-      let g : NodesFit (length u.exprs) u.nodes = subst (NodesFit (length u.exprs)) (sym (same_nodes action feat e (note (action w) p t) ∙ note_nodes (action w) p t)) (λ n lt. more_exprs (length t.exprs) (length u.exprs) (get_or t.nodes n nd.False) grown (f n lt)) in
-      each_push (λ n. NodeFits (length z.exprs)) nd.False z.nodes (modal_node m (or_0 (action w)) (last expression u) (last formula z)) (nodes_fit a u v g)
-      (modal_fits m (length z.exprs) (or_0 (action w)) (last expression u) (last formula z) (actions w) (last_below u.exprs z.exprs (enter_some action feat expression e (note (action w) p t)) (enter_exprs action feat formula a u)))
-  nodes_fit (fixpoint x y a) t v f = each_push (λ n. NodeFits (length (fnt a t).exprs)) nd.False (fnt a t).nodes (fixpoint_node x y (last formula (fnt a t))) (nodes_fit a t v.1 f) (fixpoint_fits x (length (fnt a t).exprs) y (last formula (fnt a t)) v.0)
+      let g : NodesFit u.exprs u.nodes = subst (NodesFit u.exprs) (sym (same_nodes action feat e (note (action w) p t) ∙ note_nodes (action w) p t)) (λ n lt. more_exprs t.exprs u.exprs (get_or t.nodes n nd.False) grown (f n lt)) in
+      each_push (λ n. Carries z.exprs) nd.False z.nodes (modal_node m (or_0 (action w)) (last expression u) (last formula z)) (nodes_fit a u v g)
+      (modal_fits m z.exprs (or_0 (action w)) (last expression u) (last formula z) (actions w) (last_below u.exprs z.exprs (enter_some action feat expression e (note (action w) p t)) (enter_exprs action feat formula a u)))
+  nodes_fit (fixpoint x y a) t v f = each_push (λ n. Carries (fnt a t).exprs) nd.False (fnt a t).nodes (fixpoint_node x y (last formula (fnt a t))) (nodes_fit a t v.1 f) (fixpoint_fits x (fnt a t).exprs y (last formula (fnt a t)) v.0)

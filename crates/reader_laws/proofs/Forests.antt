@@ -5,7 +5,8 @@ use Rattle.std.proofs.lemmas.Bool.{cases_lt}
 use Rattle.formulas.specs.declared.Node.{Node}
 use Rattle.formulas.specs.declared.Node.TheVariants as nd
 use Rattle.formulas.specs.Tables.{Names, Apart}
-use Rattle.grammar.specs.Grammar.{formula, expression, Modality, diamond, box, Fixpoint, least, greatest, Tree, bottom, top, negation, disjunction, conjunction, feature, var, modal, fixpoint}
+use Rattle.grammar.specs.Grammar.{Modality, diamond, box, Fixpoint, least, greatest, Tree, bottom, top, negation, disjunction, conjunction, feature, var, modal, fixpoint}
+use Rattle.grammar.specs.declared.Level.TheVariants.{Formula as formula, Expression as expression}
 use Rattle.reader.specs.Numbering.{Tables, note, or_0, last, enter, modal_node, fixpoint_node}
 use Rattle.reader_laws.proofs.Extends.{Extends, through, pushed, top_entry, last_push, note_nodes, enter_nodes}
 

@@ -11,10 +11,12 @@ use Rattle.formulas.specs.declared.Node.{Node}
 use Rattle.formulas.specs.declared.Node.TheVariants as nd
 use Rattle.formulas.specs.Tables.{Names}
 use Rattle.formulas.specs.Tables as tb
-use Rattle.grammar.specs.Grammar.{formula, Tree}
+use Rattle.grammar.specs.Grammar.{Tree}
+use Rattle.grammar.specs.declared.Level.TheVariants.{Formula as formula}
 use Rattle.reader.specs.Numbering.{none_entered, or_0, last}
 use Rattle.reader.specs.Outcome.{numbering, Formed, Tried, long_text, no_words, no_token, no_formula, unknown_name, too_many, accepted, Reading, short_table, tried}
-use Rattle.reader_laws.specs.Results.{ExprFits, Stands, Structured, TablesHold}
+use Rattle.formulas.specs.Judge.{ExprFitsAt}
+use Rattle.reader_laws.specs.Results.{Stands, Structured, TablesHold}
 use Rattle.reader_laws.proofs.Extends.{Extends, same, longer, enter_some}
 use Rattle.reader_laws.proofs.Back.{formula_back}
 use Rattle.reader_laws.proofs.Forests.{Forest, forest}
@@ -31,9 +33,9 @@ small ws w n le = go (number ws w) refl
 beyond : (xs : List Expr) (k : ℕ) → ExprsFit xs → ExprsFit (xs ++ replicate k ex.False)
 beyond xs k f n lt = go (cases_lt n (length xs))
   where
-    go : (n < length xs) ⊎ (length xs ≤ n) → ExprFits n (get_or (xs ++ replicate k ex.False) n ex.False)
-    go (inl h) = subst (ExprFits n) (sym (get_or_append_left xs (replicate k ex.False) ex.False n h)) (f n h)
-    go (inr h) = subst (ExprFits n) (sym (get_or-append_right xs (replicate k ex.False) (length xs) n ex.False refl h ∙ all_false k (n - length xs))) tt
+    go : (n < length xs) ⊎ (length xs ≤ n) → ExprFitsAt n (get_or (xs ++ replicate k ex.False) n ex.False)
+    go (inl h) = subst (ExprFitsAt n) (sym (get_or_append_left xs (replicate k ex.False) ex.False n h)) (f n h)
+    go (inr h) = subst (ExprFitsAt n) (sym (get_or-append_right xs (replicate k ex.False) (length xs) n ex.False refl h ∙ all_false k (n - length xs))) tt
       where
         all_false : (k i : ℕ) → get_or (replicate k ex.False) i ex.False ≡ ex.False
         all_false k i = false_at (cases_lt i k)
@@ -105,7 +107,7 @@ module _ (text actions features : List ℕ) (n m : ℕ) (room : (64 ≤ n) × (6
         some = enter_some (number av) (number fv) formula f none_entered;
         few = few_nodes;
         exprs = beyond (numbering av fv f).exprs (n - length (numbering av fv f).exprs) (exprs_fit (number av) (number fv) acts feats f none_entered (λ i lt. absurd (omega arith)));
-        nodes = λ i lt. more_exprs (length (numbering av fv f).exprs) (length es) (get_or (numbering av fv f).nodes i nd.False) (longer (front (numbering av fv f).exprs _)) (nodes_fit (number av) (number fv) acts feats f none_entered (vars text formed.tokens formed.derived.0 f formed.lexed formed.derived.1) (λ j le. absurd (omega arith)) i lt);
+        nodes = λ i lt. more_exprs (numbering av fv f).exprs es (get_or (numbering av fv f).nodes i nd.False) (longer (front (numbering av fv f).exprs _)) (nodes_fit (number av) (number fv) acts feats f none_entered (vars text formed.tokens formed.derived.0 f formed.lexed formed.derived.1) (λ j le. absurd (omega arith)) i lt);
         tree = as_tree (numbering av fv f).nodes (λ c. c ≡ last formula (numbering av fv f)) whole;
         named = λ c lt. one_whole c lt (whole.named c (omega arith) (omega arith));
       }

@@ -1,7 +1,7 @@
 -- Reading has one answer.
-use Rattle.std.proofs.Common.{◌≡◌, ℕ, ◌-◌, ◌<◌, ◌≤◌, ◌⊎◌, List, [], ◌∷◌, ◌++◌, length, replicate, sym, refl, ap, ◌∙◌, subst, inl, inr, append-nil, arith}
-use Rattle.words.specs.Words.{WordList, InForm, listed}
-use Rattle.words.proofs.Lines.{lines, front_lines, no_lines}
+use Rattle.std.proofs.Common.{◌≡◌, ℕ, ◌-◌, ◌<◌, ◌≤◌, ◌⊎◌, List, [], ◌∷◌, ◌++◌, length, replicate, sym, refl, ap, ◌∙◌, subst, inl, inr, arith}
+use Rattle.words.specs.Words.{WordList, InForm}
+use Rattle.words.proofs.Cut.{lines, cut_lines}
 use Rattle.formulas.specs.declared.Expr.{Expr}
 use Rattle.formulas.specs.declared.Expr.TheVariants as ex
 use Rattle.formulas.specs.declared.Node.{Node}
@@ -21,9 +21,7 @@ in_form {text} {actions} {features} {av} {fv} f = ((av, f.action_list), (fv, f.f
 
 -- a list has its names in one way
 pub same_names : (limit : ℕ) (bs : List ℕ) (ws us : List (List ℕ)) → WordList limit bs ws → WordList limit bs us → ws ≡ us
-same_names limit bs ws us a b =
-    let r = front_lines ws us [] (lines a).clean (lines b).clean (append-nil (listed ws) ∙ sym a.ended ∙ b.ended) in
-    sym (r.1 ∙ ap (λ x. ws ++ x) (no_lines r.0 r.2) ∙ append-nil ws)
+same_names limit bs ws us a b = sym (cut_lines (lines a)) ∙ cut_lines (lines b)
 
 same_numbering : {text actions features : List ℕ} {av fv aw fw : List (List ℕ)} {f g : Tree} → Formed text actions features av fv f → Formed text actions features aw fw g → numbering av fv f ≡ numbering aw fw g
 same_numbering {text} {actions} {features} {av} {fv} {aw} {fw} {f} {g} a b =

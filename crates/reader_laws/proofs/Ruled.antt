@@ -6,35 +6,14 @@ use Rattle.formulas.specs.declared.Expr.{Expr}
 use Rattle.formulas.specs.declared.Expr.TheVariants as ex
 use Rattle.formulas.specs.declared.Node.{Node}
 use Rattle.formulas.specs.declared.Node.TheVariants as nd
-use Rattle.formulas.specs.declared.judge.Rule.TheVariants as rule
+use Rattle.formulas.specs.Rules as rule
 use Rattle.formulas.specs.Tables.{Names}
-use Rattle.formulas.specs.Sound.{Carries}
-use Rattle.formulas.specs.Judge.{ExprFitsAt, Few, Kept, times, naming}
+use Rattle.formulas.specs.Judge.{Few, Kept, times, naming}
 use Rattle.formulas.proofs.Naming.{names_times, times_names, apart_times, naming_one}
 use Rattle.formulas.proofs.Judging.{node_fits}
 use Rattle.reader.specs.Outcome.{numbering, Tried, long_text, no_words, no_token, no_formula, unknown_name, too_many, accepted}
-use Rattle.reader_laws.specs.Results.{ExprFits, NodeFits, Structured, RulesKept}
+use Rattle.reader_laws.specs.Results.{Structured, RulesKept}
 use Rattle.reader_laws.proofs.Hold.{tried_hold}
-
-expr_kept : (n : ℕ) (x : Expr) → ExprFits n x → ExprFitsAt n x
-expr_kept n ex.False f = f
-expr_kept n ex.True f = f
-expr_kept n (ex.Feature k) f = f
-expr_kept n (ex.Not c) f = f
-expr_kept n (ex.Or c d) f = f
-expr_kept n (ex.And c d) f = f
-
-carries : (es : List Expr) (x : Node) → NodeFits (length es) x → Carries es x
-carries es nd.False f = f
-carries es nd.True f = f
-carries es (nd.Not c) f = f
-carries es (nd.Or c d) f = f
-carries es (nd.And c d) f = f
-carries es (nd.Diamond a e c) f = f
-carries es (nd.Box a e c) f = f
-carries es (nd.Variable v) f = f
-carries es (nd.Least v c) f = f
-carries es (nd.Greatest v c) f = f
 
 module _ (es : List Expr) (ns : List Node) (s : Structured es ns) where
   others_none : (n c q : ℕ) → Names c (get_or ns n nd.False) → ¬ (q ≡ n) → times c (get_or ns q nd.False) ≡ 0
@@ -54,8 +33,8 @@ module _ (es : List Expr) (ns : List Node) (s : Structured es ns) where
   kept : length es ≤ 64 → Few es ns × Kept rule.Exprs es ns × Kept rule.Nodes es ns × Kept rule.NamedOnce es ns
   kept few = (
     (s.some, s.few, few),
-    λ n n<. expr_kept n (get_or es n ex.False) (s.exprs n n<),
-    λ n n<. node_fits es n (get_or ns n nd.False) (s.tree.lower n) (carries es (get_or ns n nd.False) (s.nodes n n<)),
+    s.exprs,
+    λ n n<. node_fits es n (get_or ns n nd.False) (s.tree.lower n) (s.nodes n n<),
     λ n n<. named_once n,
   )
 

@@ -8,8 +8,9 @@ use Rattle.formulas.specs.declared.Node.TheVariants as nd
 use Rattle.formulas.specs.Trees.{Expression, Formula}
 use Rattle.formulas.specs.Tables.{formula_at, Names}
 use Rattle.formulas.specs.Tables as tb
-use Rattle.formulas.specs.Judge.{Few, Kept}
-use Rattle.formulas.specs.declared.judge.Rule.TheVariants as rule
+use Rattle.formulas.specs.Sound.{Carries}
+use Rattle.formulas.specs.Judge.{ExprFitsAt, Few, Kept}
+use Rattle.formulas.specs.Rules as rule
 use Rattle.grammar.specs.Grammar.{Modality, diamond, box, Fixpoint, least, greatest, Tree, bottom, top, negation, disjunction, conjunction, feature, var, modal, fixpoint}
 use Rattle.reader.specs.Numbering.{or_0}
 use Rattle.reader.specs.Outcome.{Formed, Tried, Reading}
@@ -54,34 +55,13 @@ pub record Stands (text actions features : List ℕ) (es : List Expr) (ns : List
   pub formed : Formed text actions features action_names feature_names tree
   pub read_back : formula_at es ns (v - 1) ≡ formula_of (number action_names) (number feature_names) tree
 
--- Entry n of an expression table: its parts have smaller numbers, and its feature is one of 16.
-abbrev pub ExprFits : ℕ → Expr → Type 0
-ExprFits n ex.False = Unit {0}
-ExprFits n ex.True = Unit {0}
-ExprFits n (ex.Feature k) = k ≤ 15
-ExprFits n (ex.Not c) = c < n
-ExprFits n (ex.Or c d) = (c < n) × (d < n)
-ExprFits n (ex.And c d) = (c < n) × (d < n)
-
--- An entry of a formula table beside m expression entries: its action is one of 64, its expression exists, its variable is one of 26.
-abbrev pub NodeFits : ℕ → Node → Type 0
-NodeFits m nd.False = Unit {0}
-NodeFits m nd.True = Unit {0}
-NodeFits m (nd.Not c) = Unit {0}
-NodeFits m (nd.Or c d) = Unit {0}
-NodeFits m (nd.And c d) = Unit {0}
-NodeFits m (nd.Diamond a e c) = (a ≤ 63) × (e < m)
-NodeFits m (nd.Box a e c) = (a ≤ 63) × (e < m)
-NodeFits m (nd.Variable v) = v ≤ 25
-NodeFits m (nd.Least v c) = v ≤ 25
-NodeFits m (nd.Greatest v c) = v ≤ 25
-
--- Both tables keep their form: 1 to 64 formula entries, parts below wholes, and every formula entry but the last named exactly once.
+-- Both tables keep their form: 1 to 64 formula entries, numbers in their ranges, parts below wholes, and every formula entry but the last named
+-- exactly once.
 pub record Structured (es : List Expr) (ns : List Node) : Type 0 where
   pub some : 1 ≤ length ns
   pub few : length ns ≤ 64
-  pub exprs : (n : ℕ) → n < length es → ExprFits n (slice_index_or es n ex.False)
-  pub nodes : (n : ℕ) → n < length ns → NodeFits (length es) (slice_index_or ns n nd.False)
+  pub exprs : (n : ℕ) → n < length es → ExprFitsAt n (slice_index_or es n ex.False)
+  pub nodes : (n : ℕ) → n < length ns → Carries es (slice_index_or ns n nd.False)
   pub tree : tb.Tree ns
   pub named : (c : ℕ) → c + 1 < length ns → (n : ℕ) × (n < length ns) × Names c (slice_index_or ns n nd.False)
 

@@ -4,27 +4,35 @@
 #[cfg(test)]
 mod tests {
     use formulas::{Expr, Node};
-    use reader::read;
+    use reader::{Refusal, read};
+
+    // An answer as its number and its value.
+    fn told(answer: Result<usize, Refusal>) -> (u8, usize) {
+        match answer {
+            Ok(count) => (0, count),
+            Err(refusal) => refusal.into(),
+        }
+    }
 
     // Whether reading a text gives this answer, with four actions and two features.
     fn answers(text: &[u8], number: u8, value: usize) -> bool {
         let mut exprs = [Expr::True; 64];
         let mut nodes = [Node::True; 64];
-        read(
+        told(read(
             text,
             b"fill\nrennet\ntest\ncut\n",
             b"auto\nhand\n",
             &mut exprs,
             &mut nodes,
-        ) == (number, value)
+        )) == (number, value)
     }
 
     // Whether two word lists and a text are read with this answer.
     fn lists(actions: &[u8], features: &[u8], number: u8) -> bool {
         let mut exprs = [Expr::True; 64];
         let mut nodes = [Node::True; 64];
-        let (n, _v) = read(b"true", actions, features, &mut exprs, &mut nodes);
-        n == number
+        let answer = read(b"true", actions, features, &mut exprs, &mut nodes);
+        told(answer).0 == number
     }
 
     // Each refusal with its place.
@@ -32,7 +40,7 @@ mod tests {
     fn refusals(rt: HostRuntime) {
         let mut few = [Expr::True; 63];
         let mut nodes = [Node::True; 64];
-        assert!(rt; read(b"true", b"", b"", &mut few, &mut nodes) == (19, 0));
+        assert!(rt; told(read(b"true", b"", b"", &mut few, &mut nodes)) == (19, 0));
         assert!(rt;
             lists(b"mu\n", b"", 21)
                 && lists(b"a\na\n", b"", 21)
@@ -146,13 +154,13 @@ mod tests {
         let mut exprs = [Expr::True; 64];
         let mut nodes = [Node::True; 64];
         assert!(rt;
-            read(
+            told(read(
                 b"A && <cut|hand>B || !C",
                 b"fill\ncut\n",
                 b"hand\n",
                 &mut exprs,
                 &mut nodes,
-            ) == (0, 7)
+            )) == (0, 7)
         );
         assert!(rt;
             matches!(nodes[0], Node::Variable(0))
@@ -173,7 +181,7 @@ mod tests {
                 && matches!(nodes[7], Node::False)
         );
         assert!(rt; matches!(exprs[0], Expr::Feature(0)) && matches!(exprs[1], Expr::False));
-        assert!(rt; read(b"A && pour", b"", b"", &mut exprs, &mut nodes) == (23, 5));
+        assert!(rt; told(read(b"A && pour", b"", b"", &mut exprs, &mut nodes)) == (23, 5));
         assert!(rt; matches!(nodes[0], Node::False) && matches!(exprs[0], Expr::False));
     }
 }
