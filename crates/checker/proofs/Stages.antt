@@ -6,6 +6,7 @@ use Rattle.families.specs.Families.{Family, count, config}
 use Rattle.families.proofs.Tests.{and_split, and_both, or_split, or_left, or_right, not_iff}
 use Rattle.formulas.specs.Tables.{as_formula, expression_at, formula_at, Names, Apart, Binds, Under, itself, further, Way, there, down, turned, last}
 use Rattle.formulas.specs.Trees.{Parity, Even}
+use Rattle.formulas.specs.Judge.{Above}
 use Rattle.formulas.specs.Sound.{Sound}
 use Rattle.formulas.specs.declared.Expr.{Expr}
 use Rattle.formulas.specs.declared.Node.{Node}
@@ -17,12 +18,19 @@ use Rattle.semantics.specs.Meaning.{Pairs, Means, Same}
 use Rattle.semantics.specs.Entries.{Parts, Filled}
 use Rattle.semantics.proofs.Rows.{filled_below, filled_beside, fill_as}
 use Rattle.semantics.proofs.RowRules.{means_not, means_or, means_and, means_diamond, means_box}
-use Rattle.checker.specs.Gathered.{entry, Everyone, Collects}
-use Rattle.checker.specs.Walks.{rows, OnlyRow, Framed, SomeLeads, AllLead, OnlyProducts, Above, FixpointsAbove, Walked}
+use Rattle.checker.specs.Gathered.{family_of, Everyone, Collects}
+use Rattle.checker.specs.Walks.{entry, rows, OnlyRow, Framed, SomeLeads, AllLead, OnlyProducts, FixpointsAbove, Walked}
+use Rattle.product_sets.specs.declared.kind.Kind.{Ghosts}
+use Rattle.checker.specs.declared.walk.Walk.{Walk}
+use Rattle.checker.proofs.Tables.{sound_tables}
 use Rattle.checker.proofs.Places.{row_below}
 
 pub same_by : (a b : Bool) → a ≡ b → T a ↔ T b
 same_by a b e = (λ t. subst T e t, λ t. subst T (sym e) t)
+
+-- What a call of the walk asks.
+pub asked : {A B C D E G : Type 0} → A → B → C → D → E → G → A × (B × (C × (D × (E × G))))
+asked a b c d e g = (a, (b, (c, (d, (e, g)))))
 
 -- Whether an entry is a fixpoint of v.
 binds_or : (v : ℕ) (x : Node) → Binds v x ⊎ (¬ Binds v x)
@@ -51,11 +59,30 @@ climb ns v m r p k (further {p = q} u h) w = elim (binds_or v (entry ns q)) [
 -- Every variable has a fixpoint above it.
 pub fixpoint_above : (es : List Expr) (ns : List Node) → Sound es ns → (n v : ℕ) → n < length ns → entry ns n ≡ nd.Variable v → (b : ℕ) × Above ns b n × Binds v (entry ns b)
 fixpoint_above es ns sound n v n< e = elim (climb ns v n (last ns) n Even (sound.whole n n<) there) [
-  | inl x ↦ (x.0, (x.1, λ q. subst (λ (y : Node). Binds v y) (ap (entry ns) q ∙ e) x.2), x.2)
+  | inl x ↦ elim (under_top ns sound.tree x.0 n x.1) [
+    | inl q ↦ absurd (subst (λ (y : Node). Binds v y) (ap (entry ns) q ∙ e) x.2)
+    | inr a ↦ (x.0, a, x.2)
+  ]
   | inr y ↦ absurd (sound.bound y.0 v n y.1 e)
 ]
 
-module _ {X : Type 0} (M : X → ℕ → Bool) (F : Family) (es : List Expr) (ns : List Node) (sound : Sound es ns) (all : X) where
+-- In a walk, where M says which places are in a set.
+module _ {K X : Type 0} {g : Ghosts K X} (M : X → ℕ → Bool) (walk : Walk K X g) where
+  abbrev F : Family
+  F = family_of walk.view
+
+  abbrev es : List Expr
+  es = walk.tables.exprs.now
+
+  abbrev ns : List Node
+  ns = walk.tables.nodes.now
+
+  abbrev all : X
+  all = walk.all
+
+  sound : Sound es ns
+  sound = sound_tables walk.tables
+
   abbrev pub R : List X → ℕ → Pairs
   R cells = rows M F.states cells all
 
@@ -91,19 +118,32 @@ module _ {X : Type 0} (M : X → ℕ → Bool) (F : Family) (es : List Expr) (ns
 
   -- What is above a part is the whole, or above it; and what is above is not under.
   above_part : (n c m : ℕ) → Names c (entry ns n) → Above ns m c → (m ≡ n) ⊎ Above ns m n
-  above_part n c m nc (itself, ne) = absurd (ne refl)
-  above_part n c m nc (further {p = p} u h, ne) =
-      let e : n ≡ p = sound.tree.once n p c nc h in
-      elim (cases_eq m n) [ inl q ↦ inl q | inr q ↦ inr (subst (λ (z : ℕ). Under ns m z) (sym e) u, q) ]
+  above_part n c m nc (d, nm, itself) = inl (sym (sound.tree.once n m c nc nm))
+  above_part n c m nc (d, nm, further {p = p} u h) = inr (d, nm, subst (λ (z : ℕ). Under ns d z) (sym (sound.tree.once n p c nc h)) u)
 
   above_out : (n m c : ℕ) → Above ns m n → c ≤ n → ¬ Under ns c m
-  above_out n m c a c≤ u = let ne : ¬ (m ≡ n) = a.1 in omega (arith, under_le ns sound.tree m n a.0, under_le ns sound.tree c m u)
+  above_out n m c a c≤ u = omega (arith, under_le ns sound.tree a.0 n a.2, sound.tree.lower m a.0 a.1, under_le ns sound.tree c m u)
+
+  pub above_ne : (m n : ℕ) → Above ns m n → ¬ (m ≡ n)
+  above_ne m n a e = omega (arith, under_le ns sound.tree a.0 n a.2, sound.tree.lower m a.0 a.1)
 
   pub to_part : (P : ℕ → ℕ → Type 0) (n c : ℕ) → Names c (entry ns n) → ((v : ℕ) → Binds v (entry ns n) → P v n) → FixpointsAbove ns n P → FixpointsAbove ns c P
   to_part P n c nc here h m v a b = elim (above_part n c m nc a) [
     | inl e ↦ subst (λ (z : ℕ). P v z) (sym e) (here v (subst (λ (z : ℕ). Binds v (entry ns z)) e b))
     | inr q ↦ h m v q b
   ]
+
+  -- A part of entry n, by the form of the entry.
+  pub part_names : (n c : ℕ) (x : Node) → entry ns n ≡ x → Names c x → Names c (entry ns n)
+  part_names n c x e nc = subst (λ (y : Node). Names c y) (sym e) nc
+
+  pub part_lower : (n c : ℕ) (x : Node) → entry ns n ≡ x → Names c x → c < n
+  part_lower n c x e nc = sound.tree.lower n c (part_names n c x e nc)
+
+  pub part_begun : (n c : ℕ) (x : Node) (xs : List X) → entry ns n ≡ x → Names c x → ((v : ℕ) → ¬ Binds v x)
+      → FixpointsAbove ns n (λ _ m. OnlyProducts F (R xs m)) → FixpointsAbove ns c (λ _ m. OnlyProducts F (R xs m))
+  part_begun n c x xs e nc nb =
+      to_part (λ _ m. OnlyProducts F (R xs m)) n c (part_names n c x e nc) (λ v b. absurd (nb v (subst (λ (y : Node). Binds v y) e b)))
 
   -- Rows above n are as before, after n or a part of it was walked.
   pub only_after : (n c : ℕ) (xs ys : List X) → c ≤ n → Framed ns F.states c xs ys
@@ -261,6 +301,5 @@ module _ {X : Type 0} (M : X → ℕ → Bool) (F : Family) (es : List Expr) (ns
 -- Nothing is above the whole.
 pub nothing_above : (es : List Expr) (ns : List Node) → Sound es ns → (P : ℕ → ℕ → Type 0) → FixpointsAbove ns (last ns) P
 nothing_above es ns sound P m v a b =
-    let ne : ¬ (m ≡ last ns) = a.1 in
-    let past : length ns ≤ m = omega (arith, under_le ns sound.tree m (last ns) a.0, sound.some) in
+    let past : length ns ≤ m = omega (arith, under_le ns sound.tree a.0 (last ns) a.2, sound.tree.lower m a.0 a.1, sound.some) in
     absurd (subst (λ (y : Node). Binds v y) (get_or_past ns m nd.False past) b)

@@ -2,7 +2,9 @@
 use Rattle.std.specs.Prelude.{◌≡◌, ℕ, zero, suc, ◌+◌, ◌*◌, ◌<◌, ◌≤◌, Bool, cond, List, length}
 use Rattle.families.specs.Families.{Family, count}
 use Rattle.formulas.specs.Sound.{Sound}
-use Rattle.formulas.specs.Judge.{Judged}
+use Rattle.formulas.specs.Judge.{Judged, pair_of}
+use Rattle.checker.specs.declared.check.Refusal.{Refusal}
+use Rattle.checker.specs.declared.check.Refusal.TheVariants.{Unsound, TooManyProducts, TooFewCells}
 use Rattle.formulas.specs.declared.Expr.{Expr}
 use Rattle.formulas.specs.declared.Node.{Node}
 
@@ -10,6 +12,12 @@ use Rattle.formulas.specs.declared.Node.{Node}
 abbrev pub how_many : ℕ → (ℕ → Bool) → ℕ
 how_many zero passes = 0
 how_many (suc n) passes = how_many n passes + cond (passes n) 1 0
+
+-- The number of a refusal, and its value.
+abbrev pub refusal_pair : Refusal → ℕ × ℕ
+refusal_pair (Unsound reason) = pair_of reason
+refusal_pair TooManyProducts = (17, 0)
+refusal_pair TooFewCells = (18, 0)
 
 -- The answer to a check, with so many places in a set and so many cells: the number and the value. The tables' own refusals come first, then
 -- too many products for the kind, then too few cells. Accepted, the value is how many products have the last entry in state 0, where `whole`

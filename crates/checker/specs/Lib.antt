@@ -1,4 +1,4 @@
-pub mod Rules
+pub mod Steps
 pub mod Gathered
 pub mod Walks
 pub mod Checks

@@ -1,16 +1,18 @@
 -- The walk through a formula table: what the rows hold before and after it.
-use Rattle.std.specs.Prelude.{◌≡◌, ℕ, ◌+◌, ◌*◌, ◌<◌, ◌≤◌, Bool, T, List, length, slice_index_or}
+use Rattle.std.specs.Prelude.{◌≡◌, ℕ, ◌+◌, ◌*◌, ◌<◌, ◌≤◌, Bool, false, T, List, length, slice_index_or}
 use Rattle.families.specs.Families.{Family, Owns, count, config}
 use Rattle.formulas.specs.Tables.{Binds, Under}
+use Rattle.formulas.specs.Judge.{Above}
 use Rattle.formulas.specs.declared.Expr.{Expr}
 use Rattle.formulas.specs.declared.Node.{Node}
 use Rattle.formulas.specs.declared.Node.TheVariants as nd
 use Rattle.semantics.specs.Plain.{Env}
 use Rattle.semantics.specs.Meaning.{Pairs, Same}
 use Rattle.semantics.specs.Entries.{Filled}
-use Rattle.checker.specs.declared.rows.Rule.{Rule}
-use Rattle.checker.specs.declared.rows.Rule.TheVariants.{Nothing, Everything}
-use Rattle.checker.specs.Gathered.{entry}
+
+-- Entry n of a table; entries past its end read as false.
+abbrev pub entry : List Node → ℕ → Node
+entry ns n = slice_index_or ns n nd.False
 
 -- The rows of the entries: entry n has the cells from n × states on, one for each state.
 abbrev pub rows : {X : Type 0} → (X → ℕ → Bool) → ℕ → List X → X → ℕ → Pairs
@@ -39,10 +41,6 @@ AllLead F a V s p = (u : ℕ) → u < F.states → Owns F.transitions (config F 
 abbrev pub OnlyProducts : Family → Pairs → Type 0
 OnlyProducts F V = (s p : ℕ) → s < F.states → T (V s p) → p < count F
 
--- Entry m is above n.
-abbrev pub Above : List Node → ℕ → ℕ → Type 0
-Above ns m n = Under ns m n × (¬ (m ≡ n))
-
 -- Something is so of the row of each fixpoint above n, with its variable.
 abbrev pub FixpointsAbove : List Node → ℕ → (ℕ → ℕ → Type 0) → Type 0
 FixpointsAbove ns n P = (m v : ℕ) → Above ns m n → Binds v (entry ns m) → P v m
@@ -53,15 +51,15 @@ pub record Walked (F : Family) (es : List Expr) (ns : List Node) (before after :
   pub products : (m : ℕ) → Under ns n m → OnlyProducts F (after m)
   pub filled : (η : Env Pairs) → FixpointsAbove ns n (λ v m. Same F (η v) (before m)) → Filled F es ns after η n
 
--- How a fixpoint over the part c starts: the least from nothing, the greatest from all products.
-abbrev pub Starts : Rule → ℕ → Node → Type 0
-Starts rule c nd.False = ⊥
-Starts rule c nd.True = ⊥
-Starts rule c (nd.Not d) = ⊥
-Starts rule c (nd.Or d e) = ⊥
-Starts rule c (nd.And d e) = ⊥
-Starts rule c (nd.Diamond a x d) = ⊥
-Starts rule c (nd.Box a x d) = ⊥
-Starts rule c (nd.Variable v) = ⊥
-Starts rule c (nd.Least v d) = (rule ≡ Nothing) × (c ≡ d)
-Starts rule c (nd.Greatest v d) = (rule ≡ Everything) × (c ≡ d)
+-- What a fixpoint over the part c starts from: the least from nothing, the greatest from all products.
+abbrev pub Starts : (ℕ → Bool) → (ℕ → Bool) → ℕ → Node → Type 0
+Starts product start c nd.False = ⊥
+Starts product start c nd.True = ⊥
+Starts product start c (nd.Not d) = ⊥
+Starts product start c (nd.Or d e) = ⊥
+Starts product start c (nd.And d e) = ⊥
+Starts product start c (nd.Diamond a x d) = ⊥
+Starts product start c (nd.Box a x d) = ⊥
+Starts product start c (nd.Variable v) = ⊥
+Starts product start c (nd.Least v d) = ((p : ℕ) → start p ≡ false) × (c ≡ d)
+Starts product start c (nd.Greatest v d) = ((p : ℕ) → start p ≡ product p) × (c ≡ d)

@@ -1,29 +1,55 @@
 // The check of a formula against a family.
-ghost use Rattle.std.specs.Prelude.{◌≡◌, ℕ, ◌+◌, ◌*◌, ◌<◌, ◌≤◌, length, ◌≢◌, slice_index_or};
-ghost use Rattle.formulas.specs.Sound.{Sound};
+ghost use Rattle.std.specs.Prelude.{◌≡◌, ℕ, ◌+◌, ◌*◌, ◌<◌, ◌≤◌, Bool, length, ◌≢◌, IsOk, IfOk, IfErr, slice_index_or};
 ghost use Rattle.formulas.specs.Tables.{last};
 ghost use Rattle.semantics.specs.Entries.{Filled, no_pairs};
 ghost use Rattle.checker.specs.Gathered.{family_of};
 ghost use Rattle.checker.specs.Walks.{rows as row_of, OnlyProducts};
-ghost use Rattle.checker.specs.Checks.{how_many, Answered};
+ghost use Rattle.checker.specs.declared.check.Refusal.TheVariants as re;
+ghost use Rattle.checker.specs.Checks.{how_many, refusal_pair, Answered};
 
-use crate::gather::{Gathered, fixpoints};
+use crate::gather::fixpoints;
 use crate::view::FamilyView;
-use formulas::judge::judge;
+use crate::walk::Walk;
+use families::ACCEPTED;
+use formulas::judge::{SoundTables, Unsound, judge};
 use formulas::{Expr, Node};
 use product_sets::{Kind, first};
 
-const ACCEPTED: u8 = 0;
+// Why a check is refused.
+#[derive(Clone, Copy, Debug, PartialEq, Eq)]
+enum Refusal {
+    Unsound(Unsound),
+    TooManyProducts,
+    TooFewCells,
+}
 
-const TOO_MANY_PRODUCTS: u8 = 17;
+impl From<Unsound> for Refusal {
+    ghost from_gives = { λ reason refusal. refusal ≡ re.Unsound reason };
 
-const TOO_FEW_CELLS: u8 = 18;
+    fn from(reason: Unsound) -> Refusal {
+        Refusal::Unsound(reason)
+    }
+}
+
+// The refusal's number and its value.
+impl From<Refusal> for (u8, usize) {
+    ghost from_gives = { λ refusal pair. pair ≡ refusal_pair refusal };
+
+    fn from(refusal: Refusal) -> (u8, usize) {
+        match refusal {
+            Refusal::Unsound(reason) => reason.into(),
+            Refusal::TooManyProducts => (17, 0),
+            Refusal::TooFewCells => (18, 0),
+        }
+    }
+}
 
 impl FamilyView<'_> {
     // How many products are in a set.
     fn count_in<K: Kind>(&self, set: K::Set, kind: &K) -> usize
         ensures { result ≡ how_many (length self.now.products.now) (K.means kind.now set) }
     {
+        // A `for`, since of a chain over a range the proof finds no count.
         let mut count = 0;
         for p in 0..self.products.len() {
             if kind.has(set, p) {
@@ -33,25 +59,49 @@ impl FamilyView<'_> {
         count
     }
 
+    // Whether there is room: sound tables, a kind with enough places, and a cell for each entry and state.
+    fn admitted<'t, K: Kind>(
+        &self,
+        exprs: &'t [Expr],
+        nodes: &'t [Node],
+        kind: &K,
+        cells: &[K::Set],
+    ) -> Result<SoundTables<'t>, Refusal>
+        ensures refused { IfErr result (λ refusal. (whole : ℕ → Bool) → Answered (family_of self.now) exprs.now nodes.now K.places (length cells.now) whole (refusal_pair refusal).0 (refusal_pair refusal).1) }
+        ensures same { IfOk result (λ t. (t.exprs.now ≡ exprs.now) × (t.nodes.now ≡ nodes.now)) }
+        ensures fits { IsOk result → (length self.now.products.now ≤ K.places) × (length nodes.now * self.now.states ≤ length cells.now) }
+    {
+        let tables = judge(exprs, nodes)?;
+        if self.products.len() > kind.places_count() {
+            return Err(Refusal::TooManyProducts);
+        }
+        if cells.len() < nodes.len() * self.states {
+            return Err(Refusal::TooFewCells);
+        }
+        Ok(tables)
+    }
+
     // Gathers the sets, and fills the rows of all entries.
-    fn fill<K: Kind>(&self, exprs: &[Expr], nodes: &[Node], kind: &mut K, cells: &mut [K::Set])
-        requires sound { Sound exprs.now nodes.now }
-        requires fits { (length self.now.products.now ≤ K.places) × (length nodes.now * self.now.states ≤ length cells.old) }
-        ensures kept { (s : K.Set) (p : ℕ) → K.means kind.new s p ≡ K.means kind.old s p }
-        ensures beyond { (i : ℕ) (d : K.Set) → length nodes.now * self.now.states ≤ i → slice_index_or cells.new i d ≡ slice_index_or cells.old i d }
-        ensures products { (d : K.Set) (n : ℕ) → n < length nodes.now → OnlyProducts (family_of self.now) (row_of (K.means kind.new) self.now.states cells.new d n) }
-        ensures filled { (d : K.Set) → Filled (family_of self.now) exprs.now nodes.now (row_of (K.means kind.new) self.now.states cells.new d) no_pairs (last nodes.now) }
+    fn fill<K: Kind>(&self, tables: &SoundTables<'_>, kind: &mut K, cells: &mut [K::Set])
+        requires fits { (length self.now.products.now ≤ K.places) × (length tables.now.nodes.now * self.now.states ≤ length cells.old) }
+        ensures kept { K.means kind.new ≡ K.means kind.old }
+        ensures beyond { (i : ℕ) (d : K.Set) → length tables.now.nodes.now * self.now.states ≤ i → slice_index_or cells.new i d ≡ slice_index_or cells.old i d }
+        ensures products { (d : K.Set) (n : ℕ) → n < length tables.now.nodes.now → OnlyProducts (family_of self.now) (row_of (K.means kind.new) self.now.states cells.new d n) }
+        ensures filled { (d : K.Set) → Filled (family_of self.now) tables.now.exprs.now tables.now.nodes.now (row_of (K.means kind.new) self.now.states cells.new d) no_pairs (last tables.now.nodes.now) }
     {
         let all = first(kind, self.products.len());
         let conditions = self.conditions(all, kind);
-        let satisfied = self.satisfied(exprs, all, kind);
-        let fixpoints = fixpoints(exprs, nodes);
-        let gathered = Gathered {
+        let satisfied = self.satisfied(tables, all, kind);
+        let fixpoints = fixpoints(tables);
+        let walk = Walk {
+            view: *self,
+            tables: *tables,
+            all,
             conditions: &conditions,
             satisfied: &satisfied,
             fixpoints: &fixpoints,
         };
-        self.walk(exprs, nodes, &gathered, all, nodes.len() - 1, kind, cells);
+        walk.walk(tables.nodes.len() - 1, kind, cells);
     }
 
     // Checks a formula. Accepted, the cell of entry n and state s, n × states + s, holds the products for which the
@@ -70,22 +120,15 @@ impl FamilyView<'_> {
         ensures filled { result.0 ≡ 0 → (d : K.Set) → Filled (family_of self.now) exprs.now nodes.now (row_of (K.means kind.new) self.now.states cells.new d) no_pairs (last nodes.now) }
         ensures products { result.0 ≡ 0 → (d : K.Set) (n : ℕ) → n < length nodes.now → OnlyProducts (family_of self.now) (row_of (K.means kind.new) self.now.states cells.new d n) }
         ensures beyond { result.0 ≡ 0 → (i : ℕ) (d : K.Set) → length nodes.now * self.now.states ≤ i → slice_index_or cells.new i d ≡ slice_index_or cells.old i d }
-        ensures kept { (s : K.Set) (p : ℕ) → K.means kind.new s p ≡ K.means kind.old s p }
+        ensures kept { K.means kind.new ≡ K.means kind.old }
     {
-        let (number, place) = judge(exprs, nodes);
-        if number != ACCEPTED {
-            return (number, place);
+        match self.admitted(exprs, nodes, kind, cells) {
+            Err(refusal) => refusal.into(),
+            Ok(tables) => {
+                self.fill(&tables, kind, cells);
+                let whole = cells[(nodes.len() - 1) * self.states];
+                (ACCEPTED, self.count_in(whole, kind))
+            }
         }
-        if self.products.len() > kind.places_count() {
-            return (TOO_MANY_PRODUCTS, 0);
-        }
-        if cells.len() < nodes.len() * self.states {
-            return (TOO_FEW_CELLS, 0);
-        }
-        self.fill(exprs, nodes, kind, cells);
-        (
-            ACCEPTED,
-            self.count_in(cells[(nodes.len() - 1) * self.states], kind),
-        )
     }
 }

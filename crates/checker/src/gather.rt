@@ -1,52 +1,27 @@
 // What a check gathers into sets once, before it walks through the formula.
 ghost use Rattle.std.specs.Prelude.{◌≡◌, ℕ, ◌<◌, ◌≤◌, T, length};
-ghost use Rattle.families.specs.Bits.{bit};
-ghost use Rattle.families.specs.Families.{Meets, config};
-ghost use Rattle.formulas.specs.Sound.{Sound};
+ghost use Rattle.families.specs.Families.{config};
 ghost use Rattle.formulas.specs.Tables.{expression_at};
 ghost use Rattle.semantics.specs.Satisfies.{satisfies};
-ghost use Rattle.checker.specs.Gathered.{family_of, Lower, Collects, Everyone, Meeting, Satisfying, Found};
+ghost use Rattle.checker.specs.Gathered.{family_of, Collects, Passing, Everyone, Meeting, Satisfying, Found};
 
 use crate::rows::without;
 use crate::view::FamilyView;
-use families::Transition;
+use formulas::judge::SoundTables;
 use formulas::{Expr, Node};
 use product_sets::Kind;
 
-// For each transition the products that meet its condition, for each expression the products that satisfy it, and
-// for each variable the entry of its fixpoint.
-#[derive(Drop)]
-pub(crate) struct Gathered<'a, S> {
-    pub(crate) conditions: &'a [S],
-    pub(crate) satisfied: &'a [S],
-    pub(crate) fixpoints: &'a [usize],
-}
-
 impl FamilyView<'_> {
-    // The products that meet a transition's condition.
-    fn meeting<K: Kind>(&self, transition: &Transition, kind: &mut K) -> K::Set
+    // The products whose configuration passes a test.
+    fn products_where<K: Kind, F: Fn(u16) -> bool>(&self, passes: F, kind: &mut K) -> K::Set
+        requires callable { F.IsAlwaysCallable passes }
         requires fits { length self.now.products.now ≤ K.places }
-        ensures value { Collects (K.means kind.old) (family_of self.now) result (λ p. Meets (config (family_of self.now) p) transition.now) }
-        ensures kept { (s : K.Set) (p : ℕ) → K.means kind.new s p ≡ K.means kind.old s p }
+        ensures value { Passing (K.means kind.old) (family_of self.now) result (F.post passes) }
+        ensures kept { K.means kind.new ≡ K.means kind.old }
     {
         let mut set = kind.none();
-        for p in 0..self.products.len() {
-            if transition.met_by(self.products[p]) {
-                set = kind.put(set, p);
-            }
-        }
-        set
-    }
-
-    // The products that have a feature.
-    fn featuring<K: Kind>(&self, feature: u8, kind: &mut K) -> K::Set
-        requires fits { (length self.now.products.now ≤ K.places) × (feature ≤ 15) }
-        ensures value { Collects (K.means kind.old) (family_of self.now) result (λ p. T (bit (config (family_of self.now) p) feature)) }
-        ensures kept { (s : K.Set) (p : ℕ) → K.means kind.new s p ≡ K.means kind.old s p }
-    {
-        let mut set = kind.none();
-        for p in 0..self.products.len() {
-            if self.products[p] >> feature & 1 == 1 {
+        for (p, configuration) in self.products.iter().enumerate() {
+            if passes(*configuration) {
                 set = kind.put(set, p);
             }
         }
@@ -57,11 +32,11 @@ impl FamilyView<'_> {
     pub(crate) fn conditions<K: Kind>(&self, filler: K::Set, kind: &mut K) -> [K::Set; 256]
         requires fits { length self.now.products.now ≤ K.places }
         ensures value { Meeting (K.means kind.old) (family_of self.now) result filler }
-        ensures kept { (s : K.Set) (p : ℕ) → K.means kind.new s p ≡ K.means kind.old s p }
+        ensures kept { K.means kind.new ≡ K.means kind.old }
     {
         let mut sets = [filler; 256];
-        for i in 0..self.transitions.len() {
-            sets[i] = self.meeting(&self.transitions[i], kind);
+        for (i, transition) in self.transitions.iter().enumerate() {
+            sets[i] = self.products_where(|configuration| transition.met_by(configuration), kind);
         }
         sets
     }
@@ -69,59 +44,58 @@ impl FamilyView<'_> {
     // The products that satisfy entry n of an expression table, from those that satisfy its parts.
     fn satisfying<K: Kind>(
         &self,
-        exprs: &[Expr],
+        tables: &SoundTables<'_>,
         n: usize,
         all: K::Set,
-        sets: &[K::Set],
+        sets: &[K::Set; 64],
         kind: &mut K,
     ) -> K::Set
-        requires fits { (length self.now.products.now ≤ K.places) × (n < length exprs.now) × (length exprs.now ≤ 64) × (length sets.now ≡ 64) }
-        requires lower { Lower exprs.now }
+        requires fits { (length self.now.products.now ≤ K.places) × (n < length tables.now.exprs.now) }
         requires everyone { Everyone (K.means kind.old) (family_of self.now) all }
-        requires parts { Satisfying (K.means kind.old) (family_of self.now) exprs.now sets.now all n }
-        ensures value { Collects (K.means kind.old) (family_of self.now) result (λ p. T (satisfies (config (family_of self.now) p) (expression_at exprs.now n))) }
-        ensures kept { (s : K.Set) (p : ℕ) → K.means kind.new s p ≡ K.means kind.old s p }
+        requires parts { Satisfying (K.means kind.old) (family_of self.now) tables.now.exprs.now sets.now all n }
+        ensures value { Collects (K.means kind.old) (family_of self.now) result (λ p. T (satisfies (config (family_of self.now) p) (expression_at tables.now.exprs.now n))) }
+        ensures kept { K.means kind.new ≡ K.means kind.old }
     {
-        match exprs[n] {
+        match tables.exprs[n] {
             Expr::False => kind.none(),
             Expr::True => all,
-            Expr::Feature(k) => self.featuring(k, kind),
+            Expr::Feature(k) => {
+                self.products_where(|configuration| configuration >> k & 1 == 1, kind)
+            }
             Expr::Not(c) => without(kind, all, sets[c]),
             Expr::Or(c, d) => kind.join(sets[c], sets[d]),
             Expr::And(c, d) => kind.meet(sets[c], sets[d]),
         }
     }
 
-    // For each expression the products that satisfy it.
+    // For each expression the products that satisfy it. An entry goes by its number, as the parts of an entry do.
     pub(crate) fn satisfied<K: Kind>(
         &self,
-        exprs: &[Expr],
+        tables: &SoundTables<'_>,
         all: K::Set,
         kind: &mut K,
     ) -> [K::Set; 64]
-        requires fits { (length self.now.products.now ≤ K.places) × (length exprs.now ≤ 64) }
-        requires lower { Lower exprs.now }
+        requires fits { length self.now.products.now ≤ K.places }
         requires everyone { Everyone (K.means kind.old) (family_of self.now) all }
-        ensures value { Satisfying (K.means kind.old) (family_of self.now) exprs.now result all (length exprs.now) }
-        ensures kept { (s : K.Set) (p : ℕ) → K.means kind.new s p ≡ K.means kind.old s p }
+        ensures value { Satisfying (K.means kind.old) (family_of self.now) tables.now.exprs.now result all (length tables.now.exprs.now) }
+        ensures kept { K.means kind.new ≡ K.means kind.old }
     {
         let mut sets = [all; 64];
-        for n in 0..exprs.len() {
-            sets[n] = self.satisfying(exprs, n, all, &sets, kind);
+        for n in 0..tables.exprs.len() {
+            sets[n] = self.satisfying(tables, n, all, &sets, kind);
         }
         sets
     }
 }
 
 // For each variable the entry of its fixpoint.
-pub(crate) fn fixpoints(exprs: &[Expr], nodes: &[Node]) -> [usize; 26]
-    requires sound { Sound exprs.now nodes.now }
-    ensures { Found nodes.now result }
+pub(crate) fn fixpoints(tables: &SoundTables<'_>) -> [usize; 26]
+    ensures { Found tables.now.nodes.now result }
 {
     let mut found = [0; 26];
-    for n in 0..nodes.len() {
-        if let Node::Least(v, _) | Node::Greatest(v, _) = nodes[n] {
-            found[v as usize] = n;
+    for (n, node) in tables.nodes.iter().enumerate() {
+        if let Node::Least(v, _) | Node::Greatest(v, _) = *node {
+            found[usize::from(v)] = n;
         }
     }
     found

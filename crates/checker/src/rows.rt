@@ -1,112 +1,132 @@
 // Rows of cells, one cell for each state: entry n has the cells from n × states on.
-ghost use Rattle.std.specs.Prelude.{◌≡◌, ℕ, ◌+◌, ◌*◌, ◌<◌, ◌≤◌, Bool, true, length, slice_index_or};
-ghost use Rattle.checker.specs.Rules.{ruled};
+ghost use Rattle.std.specs.Prelude.{◌≡◌, ℕ, ◌+◌, ◌*◌, ◌<◌, ◌≤◌, Bool, true, not, ◌&&◌, length, slice_index_or};
+ghost use Rattle.checker.specs.Steps.{Preserves, Follows};
+ghost use Rattle.checker.specs.Gathered.{rows_of};
+ghost use Rattle.checker.specs.Walks.{rows as row_of, OnlyRow};
 
+use crate::walk::Walk;
 use product_sets::Kind;
-
-// How a cell is made from the cells of two other rows.
-#[derive(Clone, Copy)]
-pub(crate) enum Rule {
-    Nothing,
-    Everything,
-    Copied,
-    Rest,
-    Join,
-    Meet,
-    RestOfMeet,
-}
 
 // The products that are not in the set.
 pub(crate) fn without<K: Kind>(kind: &mut K, all: K::Set, set: K::Set) -> K::Set
-    ensures value { (p : ℕ) → K.means kind.new result p ≡ ruled Rule.Rest (K.means kind.old all p) (K.means kind.old set p) true }
-    ensures kept { (s : K.Set) (p : ℕ) → K.means kind.new s p ≡ K.means kind.old s p }
+    ensures value { (p : ℕ) → K.means kind.new result p ≡ (K.means kind.old all p && not (K.means kind.old set p)) }
+    ensures kept { K.means kind.new ≡ K.means kind.old }
 {
     let rest = kind.rest(set);
     kind.meet(all, rest)
 }
 
-fn cell<K: Kind>(kind: &mut K, rule: Rule, all: K::Set, left: K::Set, right: K::Set) -> K::Set
-    ensures value { (p : ℕ) → K.means kind.new result p ≡ ruled rule (K.means kind.old all p) (K.means kind.old left p) (K.means kind.old right p) }
-    ensures kept { (s : K.Set) (p : ℕ) → K.means kind.new s p ≡ K.means kind.old s p }
-{
-    match rule {
-        Rule::Nothing => kind.none(),
-        Rule::Everything => all,
-        Rule::Copied => left,
-        Rule::Rest => without(kind, all, left),
-        Rule::Join => kind.join(left, right),
-        Rule::Meet => kind.meet(left, right),
-        Rule::RestOfMeet => {
-            let both = kind.meet(left, right);
-            without(kind, all, both)
-        }
-    }
-}
-
-// Writes a row from two others.
-pub(crate) fn write_row<K: Kind>(
-    kind: &mut K,
-    rule: Rule,
-    all: K::Set,
+// Writes a row, each cell by a step from the cells of two other rows.
+pub(crate) fn write_row<K: Kind, F: Fn(&mut K, K::Set, K::Set) -> K::Set>(
     row: &mut [K::Set],
-    left: &[K::Set],
-    right: &[K::Set],
+    left: &[K::Set; 64],
+    right: &[K::Set; 64],
+    step: F,
+    kind: &mut K,
 )
-    requires fits { (length row.old ≤ length left.now) × (length row.old ≤ length right.now) }
-    ensures value { (s : ℕ) (x : K.Set) (p : ℕ) → s < length row.old → K.means kind.old (slice_index_or row.new s x) p ≡ ruled rule (K.means kind.old all p) (K.means kind.old (slice_index_or left.now s x) p) (K.means kind.old (slice_index_or right.now s x) p) }
-    ensures kept { (s : K.Set) (p : ℕ) → K.means kind.new s p ≡ K.means kind.old s p }
+    requires callable { F.IsAlwaysCallable step }
+    requires preserves { Preserves K.means (F.post step) }
+    requires fits { length row.old ≤ 64 }
+    ensures value { (rule : ℕ → Bool → Bool → Bool) → Follows K.means (F.post step) (K.means kind.old) rule → (s : ℕ) (x : K.Set) (p : ℕ) → s < length row.old → K.means kind.old (slice_index_or row.new s x) p ≡ rule p (K.means kind.old (slice_index_or left.now s x) p) (K.means kind.old (slice_index_or right.now s x) p) }
+    ensures kept { K.means kind.new ≡ K.means kind.old }
 {
-    for s in 0..row.len() {
-        row[s] = cell(kind, rule, all, left[s], right[s]);
+    for (s, cell) in row.iter_mut().enumerate() {
+        *cell = step(kind, left[s], right[s]);
     }
 }
 
-// A copy of the cells from `start` on, `states` of them.
-pub(crate) fn taken<K: Kind>(
-    cells: &[K::Set],
-    start: usize,
-    states: usize,
-    filler: K::Set,
-) -> [K::Set; 64]
-    requires fits { (start + states ≤ length cells.now) × (states ≤ 64) }
-    ensures { (s : ℕ) (x : K.Set) → s < states → slice_index_or result s x ≡ slice_index_or cells.now (start + s) x }
-{
-    let mut row = [filler; 64];
-    for s in 0..states {
-        row[s] = cells[start + s];
+impl<K: Kind> Walk<'_, K> {
+    // A copy of the row of entry n: the cells that are read lie beside those that are written.
+    pub(crate) fn row(&self, n: usize, cells: &[K::Set]) -> [K::Set; 64]
+        requires fits { n * self.now.view.states + self.now.view.states ≤ length cells.now }
+        ensures { (s : ℕ) (x : K.Set) → s < self.now.view.states → slice_index_or result s x ≡ slice_index_or cells.now (n * self.now.view.states + s) x }
+    {
+        let states = self.view.states;
+        let mut row = [self.all; 64];
+        row[..states].copy_from_slice(&cells[n * states..n * states + states]);
+        row
     }
-    row
-}
 
-// The row of the products that are not in a row.
-pub(crate) fn complement<K: Kind>(kind: &mut K, all: K::Set, row: &[K::Set]) -> [K::Set; 64]
-    requires fits { length row.now ≤ 64 }
-    ensures value { (s : ℕ) (x : K.Set) (p : ℕ) → s < length row.now → K.means kind.old (slice_index_or result s x) p ≡ ruled Rule.Rest (K.means kind.old all p) (K.means kind.old (slice_index_or row.now s x) p) true }
-    ensures kept { (s : K.Set) (p : ℕ) → K.means kind.new s p ≡ K.means kind.old s p }
-{
-    let mut rest = [all; 64];
-    for s in 0..row.len() {
-        rest[s] = without(kind, all, row[s]);
+    // Writes the row of entry n by a step from two rows.
+    pub(crate) fn write<F: Fn(&mut K, K::Set, K::Set) -> K::Set>(
+        &self,
+        n: usize,
+        left: &[K::Set; 64],
+        right: &[K::Set; 64],
+        step: F,
+        kind: &mut K,
+        cells: &mut [K::Set],
+    )
+        requires callable { F.IsAlwaysCallable step }
+        requires preserves { Preserves K.means (F.post step) }
+        requires fits { n * self.now.view.states + self.now.view.states ≤ length cells.old }
+        ensures value { (rule : ℕ → Bool → Bool → Bool) → Follows K.means (F.post step) (K.means kind.old) rule → (s p : ℕ) → s < self.now.view.states → rows_of (K.means kind.old) self.now cells.new n s p ≡ rule p (K.means kind.old (slice_index_or left.now s self.now.all) p) (K.means kind.old (slice_index_or right.now s self.now.all) p) }
+        ensures others { OnlyRow self.now.view.states n cells.old cells.new }
+        ensures kept { K.means kind.new ≡ K.means kind.old }
+    {
+        let start = n * self.view.states;
+        write_row(
+            &mut cells[start..start + self.view.states],
+            left,
+            right,
+            step,
+            kind,
+        );
     }
-    rest
-}
 
-// Whether the rows from two places on mean the same.
-pub(crate) fn same_rows<K: Kind>(
-    kind: &K,
-    cells: &[K::Set],
-    a: usize,
-    b: usize,
-    states: usize,
-) -> bool
-    requires fits { (a + states ≤ length cells.now) × (b + states ≤ length cells.now) }
-    ensures sound { result ≡ true → (s : ℕ) (x : K.Set) (p : ℕ) → s < states → K.means kind.now (slice_index_or cells.now (a + s) x) p ≡ K.means kind.now (slice_index_or cells.now (b + s) x) p }
-    ensures full { ((s : ℕ) (x : K.Set) (p : ℕ) → s < states → K.means kind.now (slice_index_or cells.now (a + s) x) p ≡ K.means kind.now (slice_index_or cells.now (b + s) x) p) → result ≡ true }
-{
-    for s in 0..states {
-        if !kind.same(cells[a + s], cells[b + s]) {
-            return false;
-        }
+    // Writes the row of entry n by a step from the rows of c and d.
+    pub(crate) fn combine<F: Fn(&mut K, K::Set, K::Set) -> K::Set>(
+        &self,
+        n: usize,
+        c: usize,
+        d: usize,
+        step: F,
+        kind: &mut K,
+        cells: &mut [K::Set],
+    )
+        requires callable { F.IsAlwaysCallable step }
+        requires preserves { Preserves K.means (F.post step) }
+        requires fits { (n * self.now.view.states + self.now.view.states ≤ length cells.old) × (c * self.now.view.states + self.now.view.states ≤ length cells.old) × (d * self.now.view.states + self.now.view.states ≤ length cells.old) }
+        ensures value { (rule : ℕ → Bool → Bool → Bool) → Follows K.means (F.post step) (K.means kind.old) rule → (s p : ℕ) → s < self.now.view.states → rows_of (K.means kind.old) self.now cells.new n s p ≡ rule p (rows_of (K.means kind.old) self.now cells.old c s p) (rows_of (K.means kind.old) self.now cells.old d s p) }
+        ensures others { OnlyRow self.now.view.states n cells.old cells.new }
+        ensures kept { K.means kind.new ≡ K.means kind.old }
+    {
+        let left = self.row(c, cells);
+        let right = self.row(d, cells);
+        self.write(n, &left, &right, step, kind, cells);
     }
-    true
+
+    // Writes one set into each cell of entry n.
+    pub(crate) fn fill(&self, n: usize, set: K::Set, kind: &mut K, cells: &mut [K::Set])
+        requires fits { n * self.now.view.states + self.now.view.states ≤ length cells.old }
+        ensures value { (s p : ℕ) → s < self.now.view.states → rows_of (K.means kind.old) self.now cells.new n s p ≡ K.means kind.old set p }
+        ensures others { OnlyRow self.now.view.states n cells.old cells.new }
+        ensures kept { K.means kind.new ≡ K.means kind.old }
+    {
+        let row = [set; 64];
+        self.write(n, &row, &row, |_, cell, _| cell, kind, cells);
+    }
+
+    // Writes the row of c into that of n.
+    pub(crate) fn copy(&self, n: usize, c: usize, kind: &mut K, cells: &mut [K::Set])
+        requires fits { (n * self.now.view.states + self.now.view.states ≤ length cells.old) × (c * self.now.view.states + self.now.view.states ≤ length cells.old) }
+        ensures value { (s p : ℕ) → s < self.now.view.states → rows_of (K.means kind.old) self.now cells.new n s p ≡ rows_of (K.means kind.old) self.now cells.old c s p }
+        ensures others { OnlyRow self.now.view.states n cells.old cells.new }
+        ensures kept { K.means kind.new ≡ K.means kind.old }
+    {
+        let row = self.row(c, cells);
+        self.write(n, &row, &row, |_, cell, _| cell, kind, cells);
+    }
+
+    // Whether the rows of two entries mean the same.
+    pub(crate) fn same_rows(&self, n: usize, c: usize, kind: &K, cells: &[K::Set]) -> bool
+        requires fits { (n * self.now.view.states + self.now.view.states ≤ length cells.now) × (c * self.now.view.states + self.now.view.states ≤ length cells.now) }
+        ensures sound { result ≡ true → (s : ℕ) (x : K.Set) (p : ℕ) → s < self.now.view.states → row_of (K.means kind.now) self.now.view.states cells.now x n s p ≡ row_of (K.means kind.now) self.now.view.states cells.now x c s p }
+        ensures full { ((s : ℕ) (x : K.Set) (p : ℕ) → s < self.now.view.states → row_of (K.means kind.now) self.now.view.states cells.now x n s p ≡ row_of (K.means kind.now) self.now.view.states cells.now x c s p) → result ≡ true }
+    {
+        let states = self.view.states;
+        let left = &cells[n * states..n * states + states];
+        let right = &cells[c * states..c * states + states];
+        left.iter().zip(right).all(|(a, b)| kind.same(*a, *b))
+    }
 }

@@ -284,14 +284,10 @@ mod tests {
         family.check(&EXPRS, &NOT_FALSE, kind, cells)
     }
 
-    fn six_cells<K: Kind>(products: &[u16], kind: &mut K) -> (u8, usize) {
+    // The same in so many cells, six at most.
+    fn in_cells<K: Kind>(count: usize, products: &[u16], kind: &mut K) -> (u8, usize) {
         let mut cells = [kind.none(); 6];
-        always(products, kind, &mut cells)
-    }
-
-    fn five_cells<K: Kind>(products: &[u16], kind: &mut K) -> (u8, usize) {
-        let mut cells = [kind.none(); 5];
-        always(products, kind, &mut cells)
+        always(products, kind, &mut cells[..count.min(6)])
     }
 
     #[test]
@@ -318,11 +314,11 @@ mod tests {
 
     #[test]
     fn refusals(rt: HostRuntime) {
-        assert_eq!(rt; six_cells(&[0; 64], &mut Mask), (0, 64));
-        assert_eq!(rt; six_cells(&[0; 65], &mut Mask), (17, 0));
-        assert_eq!(rt; six_cells(&[0; 200], &mut Range), (0, 200));
-        assert_eq!(rt; six_cells(&[], &mut Single), (0, 0));
-        assert_eq!(rt; five_cells(&[0], &mut Single), (18, 0));
-        assert_eq!(rt; five_cells(&[0, 0], &mut Single), (17, 0));
+        assert_eq!(rt; in_cells(6, &[0; 64], &mut Mask), (0, 64));
+        assert_eq!(rt; in_cells(6, &[0; 65], &mut Mask), (17, 0));
+        assert_eq!(rt; in_cells(6, &[0; 200], &mut Range), (0, 200));
+        assert_eq!(rt; in_cells(6, &[], &mut Single), (0, 0));
+        assert_eq!(rt; in_cells(5, &[0], &mut Single), (18, 0));
+        assert_eq!(rt; in_cells(5, &[0, 0], &mut Single), (17, 0));
     }
 }
