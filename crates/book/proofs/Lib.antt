@@ -1,4 +1,4 @@
 pub mod Held
-mod Loaded
 mod LoadLaw
+mod Loaded
 mod ListedOwn

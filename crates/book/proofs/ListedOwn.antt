@@ -1,5 +1,5 @@
 -- A list of own transitions has exactly the own transitions.
-use Rattle.std.proofs.Common.{◌≡◌, ℕ, ◌<◌, ◌≤◌, Bool, true, false, ◌||◌, ◌↔◌, List, [], ◌∷◌, ◌++◌, IfOk, Ok, Err, Result, sym, refl, ap, ◌∙◌, subst, inl, inr, arith}
+use Rattle.std.proofs.Common.{◌≡◌, ℕ, ◌<◌, Bool, true, false, ◌||◌, ◌↔◌, List, [], ◌∷◌, ◌++◌, IfOk, Ok, Err, Result, sym, refl, ap, ◌∙◌, inl, inr, arith}
 use mathlib.Core.List.{Memᴰ}
 use Rattle.std.proofs.lemmas.Bool.Decides.{nat_tests}
 use Rattle.families.specs.declared.Transition.{Transition}
@@ -7,7 +7,7 @@ use Rattle.families.specs.Families.{Family, Meets, Owns, count, config}
 use Rattle.families.proofs.Owned.{Gives, owns_last, owns_nothing}
 use Rattle.book.specs.declared.own.OwnTransition.{OwnTransition}
 use Rattle.book.specs.Lists.{held}
-use Rattle.book.specs.Own.{ends, same_ends, Lists, listed, repeated, unmet, Listed, none, more, ListsOf, ExactlyOwn}
+use Rattle.book.specs.Own.{ends, same_ends, Lists, listed, repeated, unmet, Listed, none, more, ExactlyOwn}
 
 own_is : (a b : OwnTransition) → a.source ≡ b.source → a.action ≡ b.action → a.target ≡ b.target → a ≡ b
 own_is a b p q r =
@@ -62,26 +62,12 @@ module _ (c : ℕ) where
     λ w. elim (owns_last c o.source o.action o.target ts x w) [ inl b ↦ (ih o).1 b | inr g ↦ absurd (n g.1) ],
   )
 
-  pub listed_own : {ts : List Transition} {os : List OwnTransition} → Listed c ts os → (o : OwnTransition) → Memᴰ o os ↔ OwnIn ts o
+  listed_own : {ts : List Transition} {os : List OwnTransition} → Listed c ts os → (o : OwnTransition) → Memᴰ o os ↔ OwnIn ts o
   listed_own none o = (λ m. elim m [ ], λ w. absurd (owns_nothing c o.source o.action o.target w))
   listed_own (more {x} {ts} {os} {ps} l s) o = step ts x os ps (listed_own l) s o
 
-module _ (f : Family) (p : ℕ) where
-  -- of a product
-  pub product_own : p < count f → (os : List OwnTransition) → Listed (config f p) f.transitions os → ListsOf f p os × ExactlyOwn f p os
-  product_own h os l = (
-    (λ _. l, λ k. absurd (omega arith)),
-    λ o. (let e = listed_own (config f p) l o in (λ m. (h, e.0 m), λ w. e.1 w.1)),
-  )
-
-  -- of a number that is no product's
-  pub no_product_own : count f ≤ p → (os : List OwnTransition) → os ≡ [] → ListsOf f p os × ExactlyOwn f p os
-  no_product_own h os e = (
-    (λ k. absurd (omega arith), λ _. e),
-    λ o. (λ m. elim (subst (λ (l : List OwnTransition). Memᴰ o l) e m) [ ], λ w. (let k = w.0 in absurd (omega arith))),
-  )
-
-  pub made_own : {V E : Type 0} (items : V → List OwnTransition) → p < count f → (r : Result V E) → IfOk r (λ v. Listed (config f p) f.transitions (items v))
-      → IfOk r (λ v. ListsOf f p (items v)) × IfOk r (λ v. ExactlyOwn f p (items v))
-  made_own items h (Ok v) l = let w = product_own h (items v) l in (w.0, w.1)
-  made_own items h (Err e) l = (tt, tt)
+-- of a product of a family
+pub made_own : (f : Family) (p : ℕ) {V E : Type 0} (items : V → List OwnTransition) → p < count f → (r : Result V E)
+    → IfOk r (λ v. Listed (config f p) f.transitions (items v)) → IfOk r (λ v. ExactlyOwn f p (items v))
+made_own f p items h (Ok v) l = λ o. (let e = listed_own (config f p) l o in (λ m. (h, e.0 m), λ w. e.1 w.1))
+made_own f p items h (Err e) l = tt

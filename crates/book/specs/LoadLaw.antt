@@ -1,22 +1,25 @@
 -- What a load does, without going through it: all records come in, at the ends of the lists and in order, or none does.
-use Rattle.std.specs.Prelude.{◌≡◌, ℕ, zero, suc, ◌/◌, ◌%◌, ◌<◌, ◌≤◌, ◌⊎◌, List, [], ◌∷◌, ◌++◌, length}
+use Rattle.std.specs.Prelude.{◌≡◌, ℕ, zero, suc, ◌/◌, ◌%◌, ◌<◌, ◌≤◌, ◌⊎◌, List, [], ◌∷◌, ◌++◌, length, Option, Some, None, Err, IsOk}
 use Rattle.families.specs.declared.Transition.{Transition}
 use Rattle.families.specs.Families.{Family}
 use Rattle.book.specs.declared.records.Record.{Record}
-use Rattle.book.specs.declared.records.Record.TheVariants.{Malformed, AddProduct, AddTransition}
+use Rattle.book.specs.declared.records.Record.TheVariants.{AddProduct, AddTransition}
 use Rattle.book.specs.Records.{record_from}
-use Rattle.book.specs.Loads.{record_number}
+use Rattle.book.specs.declared.refusals.Refusal.{Refusal}
+use Rattle.book.specs.declared.refusals.Refusal.TheVariants.{BadLength}
+use Rattle.book.specs.Answers.{number_of}
+use Rattle.book.specs.Loads.{record_result}
 
 -- The product, and the transition, that a record brings.
-abbrev pub product_of : Record → List ℕ
-product_of Malformed = []
-product_of (AddProduct c) = c ∷ []
-product_of (AddTransition t) = []
+abbrev pub product_of : Option Record → List ℕ
+product_of None = []
+product_of (Some (AddProduct c)) = c ∷ []
+product_of (Some (AddTransition t)) = []
 
-abbrev pub transition_of : Record → List Transition
-transition_of Malformed = []
-transition_of (AddProduct c) = []
-transition_of (AddTransition t) = t ∷ []
+abbrev pub transition_of : Option Record → List Transition
+transition_of None = []
+transition_of (Some (AddProduct c)) = []
+transition_of (Some (AddTransition t)) = t ∷ []
 
 -- Those of the first n records, in order.
 abbrev pub products_of : List ℕ → ℕ → List ℕ
@@ -33,14 +36,14 @@ entered f bs n = record { states = f.states; products = f.products ++ products_o
 
 -- None of the first n records is refused after those before it.
 abbrev pub Acceptable : Family → List ℕ → ℕ → Type 0
-Acceptable f bs n = (i : ℕ) → i < n → record_number (entered f bs i) (record_from bs i) ≡ 0
+Acceptable f bs n = (i : ℕ) → i < n → IsOk (record_result (entered f bs i) (record_from bs i))
 
 pub data Loaded (f : Family) (bs : List ℕ) : ℕ → ℕ → Family → Type 0 where
   -- The length is no multiple of 8 or above 3,648.
-  ill_sized : (¬ (length bs % 8 ≡ 0)) ⊎ (3648 < length bs) → Loaded f bs 8 0 f
-  -- Record i is the first bad one: it is refused by the number k, and nothing changes.
-  first_bad : (k i : ℕ) → length bs % 8 ≡ 0 → length bs ≤ 3648 → i < length bs / 8 → Acceptable f bs i
-      → record_number (entered f bs i) (record_from bs i) ≡ k → ¬ (k ≡ 0) → Loaded f bs k i f
+  ill_sized : (¬ (length bs % 8 ≡ 0)) ⊎ (3648 < length bs) → Loaded f bs (number_of BadLength) 0 f
+  -- Record i is the first bad one: it is refused, and nothing changes.
+  first_bad : (r : Refusal) (i : ℕ) → length bs % 8 ≡ 0 → length bs ≤ 3648 → i < length bs / 8 → Acceptable f bs i
+      → record_result (entered f bs i) (record_from bs i) ≡ Err r → Loaded f bs (number_of r) i f
   -- Every record comes in.
   all_good : length bs % 8 ≡ 0 → length bs ≤ 3648 → Acceptable f bs (length bs / 8)
       → Loaded f bs 0 (length bs / 8) (entered f bs (length bs / 8))

@@ -1,27 +1,85 @@
-// The two types of book. What every book keeps stands in their ghost fields.
-ghost use Rattle.std.specs.Prelude.{vec_len, vec_capacity};
-ghost use Rattle.book.specs.Rules.{Sized, Roomy, Lawful};
+// The two types of book.
+ghost use Rattle.std.specs.Prelude.{◌≡◌, IfOk};
+ghost use Rattle.book.specs.Rules.{opened, open_answer, product_answer, product_after, transition_answer, transition_after, strike_answer, strike_after};
+ghost use Rattle.book.specs.Loads.{load_answer, load_after};
+ghost use Rattle.book.specs.LoadLaw.{Loaded};
+ghost use Rattle.book.specs.Contents.{contents, closed_contents};
 
+use crate::calls::state_count;
+use crate::contents::Contents;
+use crate::refusals::answer;
 use families::Transition;
+use std::alloc::{AllocError, Global};
 
 // A book that takes additions and strikes.
 #[derive(Drop)]
 pub struct OpenBook {
-    pub(crate) states: usize,
-    pub(crate) products: Vec<u16>,
-    pub(crate) transitions: Vec<Transition>,
-    ghost sized: { Sized states (vec_len products) (vec_len transitions) },
-    ghost roomy: { Roomy (vec_capacity products) (vec_capacity transitions) },
-    ghost lawful: { Lawful states products.items transitions.items },
+    pub(crate) contents: Contents,
 }
 
 // A book that takes questions; `reopen` makes it an open one again.
 #[derive(Drop)]
 pub struct ClosedBook {
-    pub(crate) states: usize,
-    pub(crate) products: Vec<u16>,
-    pub(crate) transitions: Vec<Transition>,
-    ghost sized: { Sized states (vec_len products) (vec_len transitions) },
-    ghost roomy: { Roomy (vec_capacity products) (vec_capacity transitions) },
-    ghost lawful: { Lawful states products.items transitions.items },
+    pub(crate) contents: Contents,
+}
+
+impl OpenBook {
+    // An empty book. It reserves all the memory that the book can ever want, so no later call can lack any.
+    pub fn open(heap: Global, states: usize) -> Result<((u8, usize), OpenBook), AllocError>
+        ensures { IfOk result (λ p. (p.0 ≡ open_answer states) × (contents p.1 ≡ opened states)) }
+    {
+        let counted = state_count(states);
+        let contents = Contents::empty(heap, counted.unwrap_or(1))?;
+        Ok((answer(counted.map(|_| 0)), OpenBook { contents }))
+    }
+
+    // Adds a product (the makers' vat); accepted, the value is its number.
+    pub fn add_product(&mut self, configuration: u16) -> (u8, usize)
+        ensures answer { result ≡ product_answer (contents self.old) configuration }
+        ensures book { contents self.new ≡ product_after (contents self.old) configuration }
+    {
+        answer(self.contents.add_product(configuration))
+    }
+
+    // Adds a transition; accepted, the value is the count of transitions after it.
+    pub fn add_transition(&mut self, transition: Transition) -> (u8, usize)
+        ensures answer { result ≡ transition_answer (contents self.old) transition }
+        ensures book { contents self.new ≡ transition_after (contents self.old) transition }
+    {
+        answer(self.contents.add_transition(transition))
+    }
+
+    // Removes the transition that equals this one in all five fields; accepted, the value is the count left.
+    pub fn strike(&mut self, transition: Transition) -> (u8, usize)
+        ensures answer { result ≡ strike_answer (contents self.old) transition }
+        ensures book { contents self.new ≡ strike_after (contents self.old) transition }
+    {
+        answer(self.contents.strike(transition))
+    }
+
+    // Enters every record in order; the first bad one keeps the whole load out. Accepted, the value is the count
+    // of records; refused at a record, it is that record's number.
+    pub fn load(&mut self, bytes: &[u8]) -> (u8, usize)
+        ensures answer { result ≡ load_answer (contents self.old) bytes.now }
+        ensures book { contents self.new ≡ load_after (contents self.old) bytes.now }
+        ensures law { Loaded (contents self.old) bytes.now result.0 result.1 (contents self.new) }
+    {
+        self.contents.load(bytes)
+    }
+
+    pub fn close(self) -> ClosedBook
+        ensures { closed_contents result ≡ contents self }
+    {
+        let OpenBook { contents } = self;
+        ClosedBook { contents }
+    }
+}
+
+impl ClosedBook {
+    pub fn reopen(self) -> OpenBook
+        ensures { contents result ≡ closed_contents self }
+    {
+        let ClosedBook { contents } = self;
+        OpenBook { contents }
+    }
 }

@@ -1,148 +1,94 @@
-// Opening, adding, striking, closing and reopening.
-ghost use Rattle.std.specs.Prelude.{◌≡◌, IfOk, nat_eq};
-ghost use Rattle.book.specs.Lists.{held, place_of};
-ghost use Rattle.book.specs.Rules.{opened, open_answer, product_answer, product_after, same_transition, transition_answer, transition_after, strike_answer, strike_after};
-ghost use Rattle.book.specs.Contents.{contents, closed_contents};
+// Opening, adding and striking.
+ghost use Rattle.std.specs.Prelude.{◌≡◌, ◌≤◌, if◌then◌else◌, [], IfOk, position};
+ghost use Rattle.book.specs.Rules.{state_count_fits, product_result, product_after, same_transition, transition_result, transition_after, strike_result, strike_after};
+ghost use Rattle.book.specs.Contents.{family};
 
-use crate::books::{ClosedBook, OpenBook};
-use crate::refusals::*;
-use families::Transition;
+use crate::contents::Contents;
+use crate::refusals::Refusal;
+use families::{MAX_ACTION, Transition};
 use std::alloc::{AllocError, Global};
 
-fn holds_configuration(products: &[u16], configuration: u16) -> bool
-    ensures { result ≡ held nat_eq configuration products.now }
+const MAX_STATES: usize = 64;
+
+const MAX_PRODUCTS: usize = 200;
+
+const MAX_TRANSITIONS: usize = 256;
+
+// A count of states that a book can have.
+pub(crate) fn state_count(states: usize) -> Result<usize, Refusal>
+    ensures { result ≡ (if state_count_fits states then Ok states else Err Refusal.BadStateCount) }
 {
-    for c in products {
-        if *c == configuration {
-            return true;
-        }
+    if (1..=MAX_STATES).contains(&states) {
+        Ok(states)
+    } else {
+        Err(Refusal::BadStateCount)
     }
-    false
 }
 
-// Whether two transitions are equal in all five fields.
-fn same(a: &Transition, b: &Transition) -> bool
-    ensures { result ≡ same_transition a.now b.now }
-{
-    *a == *b
-}
-
-// The place of an equal transition, or the length where there is none.
-fn place_of(transitions: &[Transition], transition: Transition) -> usize
-    ensures { result ≡ place_of same_transition transition transitions.now }
-{
-    for (i, t) in transitions.iter().enumerate() {
-        if same(t, &transition) {
-            return i;
-        }
-    }
-    transitions.len()
-}
-
-impl OpenBook {
-    // An empty book. It reserves all the memory that the book can ever want, so no later call can lack any.
-    pub fn open(heap: Global, states: usize) -> Result<((u8, usize), OpenBook), AllocError>
-        ensures { IfOk result (λ p. (p.0 ≡ open_answer states) × (contents p.1 ≡ opened states)) }
+impl Contents {
+    // Nothing yet, with room for all that a book may ever hold.
+    pub(crate) fn empty(heap: Global, states: usize) -> Result<Contents, AllocError>
+        requires { (1 ≤ states) × (states ≤ 64) }
+        ensures { IfOk result (λ c. family c ≡ record { states = states; products = []; transitions = [] }) }
     {
-        let products = Vec::with_capacity(heap, MAX_PRODUCTS)?;
-        let transitions = Vec::with_capacity(heap, MAX_TRANSITIONS)?;
-        let (number, states) = if states >= 1 && states <= MAX_STATES {
-            (ACCEPTED, states)
-        } else {
-            (BAD_STATE_COUNT, 1)
-        };
-        let book = OpenBook {
+        Ok(Contents {
             states,
-            products,
-            transitions,
-        };
-        Ok(((number, 0), book))
+            products: Vec::with_capacity(heap, MAX_PRODUCTS)?,
+            transitions: Vec::with_capacity(heap, MAX_TRANSITIONS)?,
+        })
     }
 
-    // Adds a product (the makers' vat); accepted, the value is its number.
-    pub fn add_product(&mut self, configuration: u16) -> (u8, usize)
-        ensures answer { result ≡ product_answer (contents self.old) configuration }
-        ensures book { contents self.new ≡ product_after (contents self.old) configuration }
+    pub(crate) fn add_product(&mut self, configuration: u16) -> Result<usize, Refusal>
+        ensures outcome { result ≡ product_result (family self.old) configuration }
+        ensures book { family self.new ≡ product_after (family self.old) configuration }
     {
-        let n = self.products.len();
-        if n == MAX_PRODUCTS {
-            return (PRODUCTS_FULL, 0);
+        let number = self.products.len();
+        if number == MAX_PRODUCTS {
+            return Err(Refusal::ProductsFull);
         }
-        if holds_configuration(&self.products, configuration) {
-            return (PRODUCT_HELD, 0);
+        if self.products.contains(&configuration) {
+            return Err(Refusal::ProductHeld);
         }
         self.products.push_reserved(configuration);
-        (ACCEPTED, n)
+        Ok(number)
     }
 
-    // Adds a transition; accepted, the value is the count of transitions after it.
-    pub fn add_transition(&mut self, transition: Transition) -> (u8, usize)
-        ensures answer { result ≡ transition_answer (contents self.old) transition }
-        ensures book { contents self.new ≡ transition_after (contents self.old) transition }
+    pub(crate) fn add_transition(&mut self, transition: Transition) -> Result<usize, Refusal>
+        ensures outcome { result ≡ transition_result (family self.old) transition }
+        ensures book { family self.new ≡ transition_after (family self.old) transition }
     {
-        let Transition {
-            source,
-            action,
-            target,
-            ..
-        } = transition;
-        let states = self.states;
-        if source as usize >= states || target as usize >= states || action > MAX_ACTION {
-            return (OUT_OF_RANGE, 0);
+        let outside = |state: u8| usize::from(state) >= self.states;
+        if outside(transition.source)
+            || outside(transition.target)
+            || transition.action > MAX_ACTION
+        {
+            return Err(Refusal::OutOfRange);
         }
-        let n = self.transitions.len();
-        if place_of(&self.transitions, transition) < n {
-            return (TRANSITION_HELD, 0);
+        if self.transitions.contains(&transition) {
+            return Err(Refusal::TransitionHeld);
         }
-        if n == MAX_TRANSITIONS {
-            return (TRANSITIONS_FULL, 0);
+        if self.transitions.len() == MAX_TRANSITIONS {
+            return Err(Refusal::TransitionsFull);
         }
         self.transitions.push_reserved(transition);
-        (ACCEPTED, n + 1)
+        Ok(self.transitions.len())
     }
 
-    // Removes the transition that equals this one in all five fields; accepted, the value is the count left.
-    pub fn strike(&mut self, transition: Transition) -> (u8, usize)
-        ensures answer { result ≡ strike_answer (contents self.old) transition }
-        ensures book { contents self.new ≡ strike_after (contents self.old) transition }
+    // A function of its own, so that one clause says what the search found.
+    fn place_of(&self, transition: Transition) -> Option<usize>
+        ensures { result ≡ position (λ t. same_transition t transition) self.now.transitions.items }
     {
-        let at = place_of(&self.transitions, transition);
-        if at == self.transitions.len() {
-            return (NOT_HELD, 0);
-        }
-        let _gone = self.transitions.remove(at);
-        (ACCEPTED, self.transitions.len())
+        self.transitions.iter().position(|t| *t == transition)
     }
 
-    pub fn close(self) -> ClosedBook
-        ensures { closed_contents result ≡ contents self }
+    pub(crate) fn strike(&mut self, transition: Transition) -> Result<usize, Refusal>
+        ensures outcome { result ≡ strike_result (family self.old) transition }
+        ensures book { family self.new ≡ strike_after (family self.old) transition }
     {
-        let OpenBook {
-            states,
-            products,
-            transitions,
-        } = self;
-        ClosedBook {
-            states,
-            products,
-            transitions,
-        }
-    }
-}
-
-impl ClosedBook {
-    pub fn reopen(self) -> OpenBook
-        ensures { contents result ≡ closed_contents self }
-    {
-        let ClosedBook {
-            states,
-            products,
-            transitions,
-        } = self;
-        OpenBook {
-            states,
-            products,
-            transitions,
-        }
+        let Some(at) = self.place_of(transition) else {
+            return Err(Refusal::NotHeld);
+        };
+        self.transitions.remove(at);
+        Ok(self.transitions.len())
     }
 }

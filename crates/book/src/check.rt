@@ -18,15 +18,15 @@ impl ClosedBook {
         ensures { family_of result ≡ closed_contents self.now }
     {
         FamilyView {
-            states: self.states,
-            products: self.products.as_slice(),
-            transitions: self.transitions.as_slice(),
+            states: self.contents.states,
+            products: &self.contents.products,
+            transitions: &self.contents.transitions,
         }
     }
 
     // Checks a formula for every product at once. Accepted, the cell of entry n and state s, n × states + s, means the
     // products for which the entry holds there, a variable standing for the final set of its fixpoint, and the
-    // value is how many products have the last entry in state 0.
+    // value is how many products have the last entry in state 0. It is what the view promises, said of the book.
     pub fn check<K: Kind>(
         &self,
         exprs: &[Expr],

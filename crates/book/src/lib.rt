@@ -2,9 +2,10 @@
 #![tactic(auto)]
 
 pub mod books;
-pub mod calls;
-pub mod check;
-pub mod loads;
+mod calls;
+mod check;
+mod contents;
+mod loads;
 pub mod own;
-pub mod records;
-pub mod refusals;
+mod records;
+mod refusals;

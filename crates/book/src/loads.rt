@@ -1,48 +1,59 @@
-// Loading an open book from bytes.
-ghost use Rattle.std.specs.Prelude.{◌≡◌};
-ghost use Rattle.book.specs.Loads.{record_number, record_after, load_answer, load_after};
-ghost use Rattle.book.specs.LoadLaw.{Loaded};
-ghost use Rattle.book.specs.Contents.{contents};
+// Loading from bytes.
+ghost use Rattle.std.specs.Prelude.{◌≡◌, ◌/◌, length, IfOk, IfErr};
+ghost use Rattle.book.specs.Records.{record_in};
+ghost use Rattle.book.specs.Loads.{after_records, record_result, record_after, load_answer, load_after};
+ghost use Rattle.book.specs.LoadLaw.{entered, Loaded};
+ghost use Rattle.book.specs.Contents.{family};
 
-use crate::books::OpenBook;
-use crate::records::{Record, record_at};
-use crate::refusals::*;
+use crate::contents::Contents;
+use crate::records::{RECORD_BYTES, Record, read};
+use crate::refusals::Refusal;
+use families::ACCEPTED;
 
-impl OpenBook {
-    // Enters one record, and answers its refusal or 0.
-    fn enter(&mut self, read: Record) -> u8
-        ensures number { result ≡ record_number (contents self.old) read }
-        ensures book { contents self.new ≡ record_after (contents self.old) read }
+const MAX_BYTES: usize = 3648;
+
+impl Contents {
+    fn enter(&mut self, bytes: [u8; RECORD_BYTES]) -> Result<usize, Refusal>
+        ensures outcome { result ≡ record_result (family self.old) (record_in bytes) }
+        ensures book { family self.new ≡ record_after (family self.old) (record_in bytes) }
     {
-        let (number, _) = match read {
-            Record::Malformed => (BAD_RECORD, 0),
-            Record::AddProduct(configuration) => self.add_product(configuration),
-            Record::AddTransition(transition) => self.add_transition(transition),
-        };
-        number
+        match read(bytes) {
+            Some(Record::AddProduct(configuration)) => self.add_product(configuration),
+            Some(Record::AddTransition(transition)) => self.add_transition(transition),
+            None => Err(Refusal::BadRecord),
+        }
     }
 
-    // Enters every record in order; the first bad one keeps the whole load out. Accepted, the value is the count
-    // of records; refused at a record, it is that record's number.
-    pub fn load(&mut self, bytes: &[u8]) -> (u8, usize)
-        ensures answer { result ≡ load_answer (contents self.old) bytes.now }
-        ensures book { contents self.new ≡ load_after (contents self.old) bytes.now }
-        ensures law { Loaded (contents self.old) bytes.now result.0 result.1 (contents self.new) }
+    // Enters the records in order, and answers how many; the first bad one stops it, with its number.
+    fn enter_all(&mut self, bytes: &[u8]) -> Result<usize, (Refusal, usize)>
+        ensures all { IfOk result (λ n. (n ≡ length bytes.now / 8) × (after_records (family self.old) bytes.now n ≡ Ok (family self.new))) }
+        ensures bad { IfErr result (λ e. (after_records (family self.old) bytes.now (length bytes.now / 8) ≡ Err e) × (family self.new ≡ entered (family self.old) bytes.now e.1)) }
+    {
+        let (records, _) = bytes.as_chunks::<RECORD_BYTES>();
+        for (i, record) in records.iter().enumerate() {
+            self.enter(*record).map_err(|refusal| (refusal, i))?;
+        }
+        Ok(records.len())
+    }
+
+    // All the records come in, or none does.
+    pub(crate) fn load(&mut self, bytes: &[u8]) -> (u8, usize)
+        ensures answer { result ≡ load_answer (family self.old) bytes.now }
+        ensures book { family self.new ≡ load_after (family self.old) bytes.now }
+        ensures law { Loaded (family self.old) bytes.now result.0 result.1 (family self.new) }
     {
         if bytes.len() % RECORD_BYTES != 0 || bytes.len() > MAX_BYTES {
-            return (BAD_LENGTH, 0);
+            return (Refusal::BadLength.into(), 0);
         }
         let products = self.products.len();
         let transitions = self.transitions.len();
-        let count = bytes.len() / RECORD_BYTES;
-        for i in 0..count {
-            let number = self.enter(record_at(bytes, i));
-            if number != ACCEPTED {
+        match self.enter_all(bytes) {
+            Ok(count) => (ACCEPTED, count),
+            Err((refusal, at)) => {
                 self.products.truncate(products);
                 self.transitions.truncate(transitions);
-                return (number, i);
+                (refusal.into(), at)
             }
         }
-        (ACCEPTED, count)
     }
 }

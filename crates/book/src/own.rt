@@ -1,10 +1,8 @@
 // The own transitions of a product.
-ghost use Rattle.std.specs.Prelude.{◌≡◌, ℕ, ◌<◌, T, ◌↔◌, IfOk, OnOk};
-ghost use mathlib.Core.List.{Memᴰ};
-ghost use Rattle.families.specs.Families.{Leads, Meets, Owns, count, config};
+ghost use Rattle.std.specs.Prelude.{◌≡◌, ℕ, ◌<◌, ◌↔◌, IfOk, IsTrue};
+ghost use Rattle.families.specs.Families.{Owns, count, config};
 ghost use Rattle.book.specs.Contents.{closed_contents};
-ghost use Rattle.book.specs.Lists.{held};
-ghost use Rattle.book.specs.Own.{ExactlyOwn, Listed, Lists, ListsOf, same_ends};
+ghost use Rattle.book.specs.Own.{ends, ExactlyOwn, Listed, ListsOf};
 
 use crate::books::ClosedBook;
 use families::Transition;
@@ -19,65 +17,23 @@ pub struct OwnTransition {
     pub target: u8,
 }
 
-// Whether a transition gives this own transition to products of this configuration.
-fn gives(t: &Transition, configuration: u16, own: OwnTransition) -> bool
-    ensures { T result ↔ (Leads t.now own.source own.action own.target × Meets configuration t.now) }
-{
-    t.source == own.source
-        && t.action == own.action
-        && t.target == own.target
-        && t.met_by(configuration)
+// What a transition gives to the products that meet its condition.
+impl From<Transition> for OwnTransition {
+    ghost from_gives = { λ t o. o ≡ ends t };
+
+    fn from(transition: Transition) -> OwnTransition {
+        OwnTransition {
+            source: transition.source,
+            action: transition.action,
+            target: transition.target,
+        }
+    }
 }
 
 fn owned(transitions: &[Transition], configuration: u16, own: OwnTransition) -> bool
-    ensures { T result ↔ Owns transitions.now configuration own.source own.action own.target }
+    ensures { IsTrue result ↔ Owns transitions.now configuration own.source own.action own.target }
 {
-    for t in transitions {
-        if gives(t, configuration, own) {
-            return true;
-        }
-    }
-    false
-}
-
-fn same(a: &OwnTransition, b: &OwnTransition) -> bool
-    ensures { result ≡ same_ends a.now b.now }
-{
-    *a == *b
-}
-
-fn holds(list: &[OwnTransition], own: OwnTransition) -> bool
-    ensures { result ≡ held same_ends own list.now }
-{
-    for o in list {
-        if same(o, &own) {
-            return true;
-        }
-    }
-    false
-}
-
-// Lists what one transition gives, unless it is listed.
-fn list_one(
-    list: &mut Vec<OwnTransition>,
-    t: &Transition,
-    configuration: u16,
-) -> Result<(), AllocError>
-    ensures { OnOk result (Lists configuration t.now list.old.items list.new.items) }
-{
-    let own = OwnTransition {
-        source: t.source,
-        action: t.action,
-        target: t.target,
-    };
-    if !t.met_by(configuration) {
-        return Ok(());
-    }
-    if holds(list, own) {
-        return Ok(());
-    }
-    list.push(own)?;
-    Ok(())
+    transitions.iter().any(|t| OwnTransition::from(*t) == own && t.met_by(configuration))
 }
 
 fn list_all(
@@ -89,7 +45,10 @@ fn list_all(
 {
     let mut list = Vec::new(heap);
     for t in transitions {
-        list_one(&mut list, t, configuration)?;
+        let own = OwnTransition::from(*t);
+        if t.met_by(configuration) && !list.contains(&own) {
+            list.push(own)?;
+        }
     }
     Ok(list)
 }
@@ -99,25 +58,26 @@ impl ClosedBook {
     pub fn states(&self) -> usize
         ensures { result ≡ (closed_contents self.now).states }
     {
-        self.states
+        self.contents.states
     }
 
     // The configurations of the products, by their numbers.
     pub fn products(&self) -> &[u16]
         ensures { result.now ≡ (closed_contents self.now).products }
     {
-        self.products.as_slice()
+        &self.contents.products
     }
 
     // Whether a product has an own transition; a number that is no product's has none.
     pub fn owns(&self, product: usize, own: OwnTransition) -> bool
-        ensures { T result ↔ ((product < count (closed_contents self.now)) × Owns (closed_contents self.now).transitions (config (closed_contents self.now) product) own.source own.action own.target) }
+        ensures { IsTrue result ↔ ((product < count (closed_contents self.now)) × Owns (closed_contents self.now).transitions (config (closed_contents self.now) product) own.source own.action own.target) }
     {
-        match self.products().get(product) {
-            Some(configuration) => owned(&self.transitions, *configuration, own),
-            None => false,
-        }
+        let Some(configuration) = self.products().get(product) else {
+            return false;
+        };
+        owned(&self.contents.transitions, *configuration, own)
     }
+
     // The own transitions of a product in the order of the book, each once; a number that is no product's has none.
     pub fn own_transitions(
         &self,
@@ -127,9 +87,9 @@ impl ClosedBook {
         ensures listed { IfOk result (λ v. ListsOf (closed_contents self.now) product v.items) }
         ensures own { IfOk result (λ v. ExactlyOwn (closed_contents self.now) product v.items) }
     {
-        match self.products().get(product) {
-            Some(configuration) => list_all(heap, &self.transitions, *configuration),
-            None => Ok(Vec::new(heap)),
-        }
+        let Some(configuration) = self.products().get(product) else {
+            return Ok(Vec::new(heap));
+        };
+        list_all(heap, &self.contents.transitions, *configuration)
     }
 }

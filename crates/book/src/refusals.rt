@@ -1,32 +1,46 @@
-// The numbers by which the calls on a book refuse, and the limits behind them.
-pub const ACCEPTED: u8 = 0;
+// Why a call on a book refuses, and the numbers by which it says so.
+ghost use Rattle.std.specs.Prelude.{◌≡◌};
+ghost use Rattle.book.specs.Answers.{number_of, answer_of};
 
-pub const BAD_STATE_COUNT: u8 = 1;
+use families::ACCEPTED;
 
-pub const PRODUCTS_FULL: u8 = 2;
+#[derive(Clone, Copy, PartialEq, Eq)]
+pub(crate) enum Refusal {
+    BadStateCount,
+    ProductsFull,
+    ProductHeld,
+    OutOfRange,
+    TransitionHeld,
+    TransitionsFull,
+    NotHeld,
+    BadLength,
+    BadRecord,
+}
 
-pub const PRODUCT_HELD: u8 = 3;
+impl From<Refusal> for u8 {
+    ghost from_gives = { λ r n. n ≡ number_of r };
 
-pub const OUT_OF_RANGE: u8 = 4;
+    fn from(refusal: Refusal) -> u8 {
+        match refusal {
+            Refusal::BadStateCount => 1,
+            Refusal::ProductsFull => 2,
+            Refusal::ProductHeld => 3,
+            Refusal::OutOfRange => 4,
+            Refusal::TransitionHeld => 5,
+            Refusal::TransitionsFull => 6,
+            Refusal::NotHeld => 7,
+            Refusal::BadLength => 8,
+            Refusal::BadRecord => 9,
+        }
+    }
+}
 
-pub const TRANSITION_HELD: u8 = 5;
-
-pub const TRANSITIONS_FULL: u8 = 6;
-
-pub const NOT_HELD: u8 = 7;
-
-pub const BAD_LENGTH: u8 = 8;
-
-pub const BAD_RECORD: u8 = 9;
-
-pub const MAX_STATES: usize = 64;
-
-pub const MAX_ACTION: u8 = 63;
-
-pub const MAX_PRODUCTS: usize = 200;
-
-pub const MAX_TRANSITIONS: usize = 256;
-
-pub const RECORD_BYTES: usize = 8;
-
-pub const MAX_BYTES: usize = 3648;
+// What a call answers: its number and its value.
+pub(crate) fn answer(outcome: Result<usize, Refusal>) -> (u8, usize)
+    ensures { result ≡ answer_of outcome }
+{
+    match outcome {
+        Ok(value) => (ACCEPTED, value),
+        Err(refusal) => (refusal.into(), 0),
+    }
+}

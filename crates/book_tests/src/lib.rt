@@ -30,9 +30,7 @@ mod tests {
     // Records of `count` products with the configurations 0, 1, 2 and so on.
     fn push_products(bytes: &mut Vec<u8>, count: u8) -> Result<(), AllocError> {
         for c in 0..count {
-            for b in [80, c, 0, 0, 0, 0, 0, 0] {
-                bytes.push(b)?;
-            }
+            bytes.extend_from_slice(&[b'P', c, 0, 0, 0, 0, 0, 0])?;
         }
         Ok(())
     }
@@ -40,9 +38,7 @@ mod tests {
     // Records of 256 transitions that all differ.
     fn push_transitions(bytes: &mut Vec<u8>) -> Result<(), AllocError> {
         for i in 0..=255u8 {
-            for b in [84, i / 4, i % 64, i % 4, i, 0, 0, 0] {
-                bytes.push(b)?;
-            }
+            bytes.extend_from_slice(&[b'T', i / 4, i % 64, i % 4, i, 0, 0, 0])?;
         }
         Ok(())
     }
@@ -94,10 +90,7 @@ mod tests {
         // The others are there, in their order, and closing and reopening keeps them.
         let book = book.close().reopen().close();
         let list = book.own_transitions(rt.alloc(), 1)?;
-        assert!(rt; list.len() == 3);
-        assert!(rt; list[0] == own(0, 0, 1));
-        assert!(rt; list[1] == own(1, 1, 2));
-        assert!(rt; list[2] == own(3, 3, 0));
+        assert!(rt; list.as_slice() == [own(0, 0, 1), own(1, 1, 2), own(3, 3, 0)].as_slice());
         assert_eq!(rt; book.own_transitions(rt.alloc(), 0)?.len(), 2);
         Ok(())
     }
@@ -132,7 +125,7 @@ mod tests {
             (0, 2)
         );
         // The second record is bad: it is held, out of range, unknown, or has a byte that must be zero.
-        for bad in [
+        for (number, last) in [
             (3, [80, 2, 1, 0, 0, 0, 0, 0]),
             (5, [84, 1, 1, 2, 2, 0, 0, 0]),
             (4, [84, 4, 0, 0, 0, 0, 0, 0]),
@@ -142,12 +135,9 @@ mod tests {
             (9, [80, 7, 0, 0, 0, 0, 0, 1]),
             (9, [77, 0, 0, 0, 1, 0, 0, 0]),
         ] {
-            let (number, last) = bad;
             let mut bytes = Vec::new(rt.alloc());
             push_products(&mut bytes, 1)?;
-            for b in last {
-                bytes.push(b)?;
-            }
+            bytes.extend_from_slice(&last)?;
             assert_eq!(rt; book.load(&bytes), (number, 1));
         }
         // Nothing of the refused loads is left: configuration 0 can still be added, as product 1.

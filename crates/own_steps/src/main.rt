@@ -2,6 +2,7 @@
 #![tactic(auto)]
 
 use book::books::{ClosedBook, OpenBook};
+use families::ACCEPTED;
 use files::bytes_or_none;
 
 const STATES: usize = 64;
@@ -10,10 +11,7 @@ fn print_products(rt: &HostRuntime, book: &ClosedBook) -> anyhow::Result<()> {
     for (number, configuration) in book.products().iter().enumerate() {
         println!(rt; "product {number} configuration {configuration}")?;
         for own in book.own_transitions(rt.alloc(), number)? {
-            let source = own.source;
-            let action = own.action;
-            let target = own.target;
-            println!(rt; "  {source} {action} {target}")?;
+            println!(rt; "  {} {} {}", own.source, own.action, own.target)?;
         }
     }
     Ok(())
@@ -23,7 +21,7 @@ fn run(rt: &HostRuntime) -> anyhow::Result<()> {
     let bytes = bytes_or_none(rt, "family.bin")?;
     let (_, mut book) = OpenBook::open(rt.alloc(), STATES)?;
     let (number, value) = book.load(&bytes);
-    if number != 0 {
+    if number != ACCEPTED {
         println!(rt; "book {number} {value}")?;
         return Ok(());
     }

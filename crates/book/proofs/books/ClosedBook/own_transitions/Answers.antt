@@ -1,25 +1,17 @@
-use Rattle.std.proofs.Common.{◌≡◌, ℕ, ◌<◌, ◌≤◌, List, IfOk, vec_items, subst, rules}
+use Rattle.std.proofs.Common.{◌≡◌, ℕ, ◌<◌, List, IfOk, vec_items, subst, rules}
 use Rattle.std.proofs.lemmas.Bool.Decides.{nat_tests}
 use Rattle.families.specs.declared.Transition.{Transition}
 use Rattle.families.specs.Families.{config, count}
 use Rattle.book.specs.Contents.{closed_contents}
 use Rattle.book.specs.Own.{Listed}
-use Rattle.book.proofs.ListedOwn.{made_own, no_product_own}
+use Rattle.book.proofs.ListedOwn.{made_own}
 use Rattle.book.proofs.books.ClosedBook.own_transitions.Goals as goal
 
-pub returns-in-Some : goal.returns-in-Some
-returns-in-Some c =
+pub returns-clause-own : goal.returns-clause-own
+returns-clause-own c =
     let f = closed_contents c.args.self.now in
     let h : c.args.product < count f = search (rules, nat_tests) in
     let e : c.in-Some.configuration.now ≡ config f c.args.product = search (rules, nat_tests) in
-    let l = subst (λ (x : ℕ). IfOk c.list_all.result (λ v. Listed x f.transitions (vec_items v))) e
-    (subst (λ (ts : List Transition). IfOk c.list_all.result (λ v. Listed c.in-Some.configuration.now ts (vec_items v))) c.deref.ensures.value c.list_all.ensures) in
-    let w = made_own f c.args.product vec_items h c.list_all.result l in
-    record { listed = w.0; own = w.1 }
-
-pub returns-in-None : goal.returns-in-None
-returns-in-None c =
-    let f = closed_contents c.args.self.now in
-    let h : count f ≤ c.args.product = search (rules, nat_tests) in
-    let w = no_product_own f c.args.product h (vec_items c.new.result) c.new.ensures.items in
-    record { listed = w.0; own = w.1 }
+    made_own f c.args.product vec_items h c.list_all.result
+    (subst (λ (x : ℕ). IfOk c.list_all.result (λ v. Listed x f.transitions (vec_items v))) e
+    (subst (λ (ts : List Transition). IfOk c.list_all.result (λ v. Listed c.in-Some.configuration.now ts (vec_items v))) c.deref.ensures.value c.list_all.ensures))
