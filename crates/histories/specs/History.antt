@@ -1,5 +1,5 @@
 -- What a history of calls leaves, told from the calls and their arguments alone: no answer is read.
-use Rattle.std.specs.Prelude.{ℕ, Bool, true, false, cond, List, [], ◌∷◌}
+use Rattle.std.specs.Prelude.{ℕ, Bool, true, false, if◌then◌else◌, List, [], ◌∷◌}
 use Rattle.families.specs.Families.{Family}
 use Rattle.book.specs.Rules.{opened, product_after, transition_after, strike_after}
 use Rattle.book.specs.Loads.{load_after}
@@ -36,7 +36,7 @@ opens Reopen o = true
 
 -- A closed book takes no additions, strikes and loads.
 abbrev pub follow : Call → Standing → Standing
-follow c s = record { is_open = opens c s.is_open; family = cond s.is_open (fed c s.family) s.family }
+follow c s = record { is_open = opens c s.is_open; family = if s.is_open then fed c s.family else s.family }
 
 abbrev pub history : List Call → Standing → Standing
 history [] s = s

@@ -1,5 +1,5 @@
 -- The two laws on histories: what a check at the end of one answers and leaves, and that products that are alike get one column.
-use Rattle.std.specs.Prelude.{◌≡◌, ℕ, ◌*◌, ◌<◌, ◌≤◌, Bool, T, ◌↔◌, List, length, Some, None, Option, slice_index_or}
+use Rattle.std.specs.Prelude.{◌≡◌, ℕ, ◌*◌, ◌<◌, ◌≤◌, Bool, ◌↔◌, IsTrue, List, length, Some, None, Option, slice_index_or}
 use Rattle.families.specs.Families.{Family, count}
 use Rattle.formulas.specs.Tables.{last}
 use Rattle.formulas.specs.declared.Expr.{Expr}
@@ -30,7 +30,7 @@ Comparable number number' F G i j = (number ≡ 0) × (number' ≡ 0) × (F.stat
 -- A comparison answers none where there is nothing to compare, and else whether the two have one column.
 abbrev pub Compares : Option Bool → Type 0 → Type 0 → Type 0
 Compares None comparable same = ¬ comparable
-Compares (Some b) comparable same = comparable × (T b ↔ same)
+Compares (Some b) comparable same = comparable × (IsTrue b ↔ same)
 
 -- A comparison of product i after one history with product j after another, each checked with a kind of its own: F and G are the contents that
 -- the histories leave.

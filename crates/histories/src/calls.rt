@@ -38,22 +38,14 @@ pub(crate) enum Phase {
 fn open_after(mut book: OpenBook, call: &Call<'_>) -> Phase
     ensures { standing_of result ≡ follow call.now (standing_of (Open book)) }
 {
-    match call {
-        Call::AddProduct(configuration) => {
-            let _answer = book.add_product(*configuration);
-        }
-        Call::AddTransition(transition) => {
-            let _answer = book.add_transition(*transition);
-        }
-        Call::Strike(transition) => {
-            let _answer = book.strike(*transition);
-        }
-        Call::Load(bytes) => {
-            let _answer = book.load(bytes);
-        }
+    let _answer = match call {
+        Call::AddProduct(configuration) => book.add_product(*configuration),
+        Call::AddTransition(transition) => book.add_transition(*transition),
+        Call::Strike(transition) => book.strike(*transition),
+        Call::Load(bytes) => book.load(bytes),
         Call::Close => return Phase::Closed(book.close()),
-        Call::Check(_, _) | Call::Reopen => {}
-    }
+        Call::Check(_, _) | Call::Reopen => return Phase::Open(book),
+    };
     Phase::Open(book)
 }
 

@@ -21,6 +21,7 @@ fn replay<K: Kind>(
 {
     let (_, book) = OpenBook::open(heap, history.states)?;
     let mut phase = Phase::Open(book);
+    // No fold: of a closure that changes the kind and the cells, too little would be known.
     for call in history.calls {
         phase = phase.after(call, kind, cells);
     }

@@ -3,7 +3,7 @@
 // transitions as given and once sorted, with two kinds of product set; then without its third transition.
 #![tactic(auto)]
 
-use families::Transition;
+use families::{ACCEPTED, Transition};
 use formulas::{Expr, Node};
 use histories::calls::{Call, History};
 use histories::compare::compare;
@@ -13,6 +13,10 @@ use product_sets::{Kind, Mask, Range};
 const STATES: usize = 4;
 
 const PRODUCTS: usize = 4;
+
+const ENTRIES: usize = 16;
+
+const CELLS: usize = ENTRIES * STATES;
 
 const FILL: u8 = 0;
 
@@ -48,7 +52,7 @@ fn always(action: u8, part: usize) -> Node {
 }
 
 // nu X. [fill|true]X && [rennet|true]X && [test|true]X && [cut|true]X && [rennet|true][cut|true]false
-fn rule() -> [Node; 16] {
+fn rule() -> [Node; ENTRIES] {
     [
         Node::Variable(X),
         always(FILL, 0),
@@ -74,23 +78,18 @@ fn print_row<K: Kind>(
     rt: &HostRuntime,
     answer: (u8, usize),
     kind: &K,
-    cells: &[K::Set; 64],
+    cells: &[K::Set],
 ) -> anyhow::Result<()> {
     let (number, value) = answer;
-    if number != 0 {
+    if number != ACCEPTED {
         println!(rt; "  refused {number} {value}")?;
         return Ok(());
     }
     println!(rt; "  {value} products keep the rule in state 0")?;
-    for state in 0..STATES {
+    for (state, set) in cells.iter().skip(CELLS - STATES).enumerate() {
         print!(rt; "  state {state}: ")?;
         for product in 0..PRODUCTS {
-            let digit = if kind.has(cells[60 + state], product) {
-                1
-            } else {
-                0
-            };
-            print!(rt; "{digit}")?;
+            print!(rt; "{}", u8::from(kind.has(*set, product)))?;
         }
         println!(rt)?;
     }
@@ -98,11 +97,12 @@ fn print_row<K: Kind>(
 }
 
 fn print_comparison(rt: &HostRuntime, product: usize, same: Option<bool>) -> anyhow::Result<()> {
-    match same {
-        Some(true) => println!(rt; "  product {product}: the same column")?,
-        Some(false) => println!(rt; "  product {product}: another column")?,
-        None => println!(rt; "  product {product}: not comparable")?,
-    }
+    let found = match same {
+        Some(true) => "the same column",
+        Some(false) => "another column",
+        None => "not comparable",
+    };
+    println!(rt; "  product {product}: {found}")?;
     Ok(())
 }
 
@@ -116,9 +116,9 @@ fn print_both(
     let exprs = [Expr::True];
     let nodes = rule();
     let mut mask = Mask;
-    let mut masks = [mask.none(); 64];
+    let mut masks = [mask.none(); CELLS];
     let mut range = Range;
-    let mut ranges = [range.none(); 64];
+    let mut ranges = [range.none(); CELLS];
     let (answer, _) = run(rt.alloc(), second, &exprs, &nodes, &mut range, &mut ranges)?;
     println!(rt; "{title}, with the range kind")?;
     print_row(rt, answer, &range, &ranges)?;
@@ -144,7 +144,7 @@ fn print_both(
 
 fn print_given(rt: &HostRuntime, given: History<'_, '_>) -> anyhow::Result<()> {
     let mut mask = Mask;
-    let mut masks = [mask.none(); 64];
+    let mut masks = [mask.none(); CELLS];
     let (answer, _) = run(
         rt.alloc(),
         given,
