@@ -15,7 +15,8 @@ use Rattle.semantics.specs.Entries.{no_states}
 use Rattle.semantics.proofs.Finite.{tabulate, at, tabulated}
 use Rattle.semantics.proofs.Decide.{own, right}
 use Rattle.words.specs.Words.{WordList, number}
-use Rattle.grammar.specs.Grammar.{Tok, formula, Tree}
+use Rattle.grammar.specs.Grammar.{Tok, Tree}
+use Rattle.grammar.specs.declared.Level.TheVariants.{Formula as formula}
 use Rattle.grammar.specs.Machine as machine
 use Rattle.grammar.specs.Machine.{good, fail, whole, walk}
 use Rattle.grammar.proofs.Prefix.{offends}

@@ -2,14 +2,14 @@
 use Rattle.std.proofs.Common.{ℕ, Bool, cond, not, ◌&&◌, ltb, leb, List, length, Some, None, Decides, Option}
 use Rattle.std.proofs.lemmas.Bool.{both_ways, not-true, not-false, cond_both}
 use Rattle.std.proofs.lemmas.Bool.Decides.{Decides-like, Decides-and, Decides-ltb}
-use Rattle.formulas.specs.Judge.{Keeps, Kept, First, Few, Ready, entries, Judged, bad_size, bad_expr, bad_node, not_named_once, bound_twice, unbound, oddly_bound, accepted}
+use Rattle.formulas.specs.Judge.{Keeps, Kept, First, Few, entries, Judged, bad_size, bad_expr, bad_node, not_named_once, bound_twice, unbound, oddly_bound, accepted}
 use Rattle.formulas.specs.declared.Expr.{Expr}
 use Rattle.formulas.specs.declared.Node.{Node}
-use Rattle.formulas.specs.declared.judge.Rule.{Rule}
-use Rattle.formulas.specs.declared.judge.Rule.TheVariants as rule
+use Rattle.formulas.specs.Rules.{Rule}
+use Rattle.formulas.specs.Rules as rule
 use Rattle.formulas.proofs.Judging.{tree_of}
 use Rattle.cases.proofs.First.{first, IsFirst, here, nowhere, is_first}
-use Rattle.cases.proofs.Rules.{decides_leb, keeps, keeps_decides}
+use Rattle.cases.proofs.Rules.{Ready, decides_leb, keeps, keeps_decides}
 
 -- A refusal's number and value; 0 and 0 if there is none.
 abbrev pub Ruling : Type 0
@@ -65,7 +65,7 @@ module _ (es : List Expr) (ns : List Node) where
   by_rules_right f =
       looked_at rule.Exprs 11 _ tt (λ n b. bad_expr n f b) (λ exprs.
       looked_at rule.Nodes 12 _ tt (λ n b. bad_node n f exprs b) (λ nodes.
-      looked_at rule.NamedOnce 13 _ f.1 (λ n b. not_named_once n f exprs nodes b) (λ once.
+      looked_at rule.NamedOnce 13 _ tt (λ n b. not_named_once n f exprs nodes b) (λ once.
       let tree = tree_of es ns nodes once in
       looked_at rule.BoundOnce 14 _ tt (λ n b. bound_twice n f exprs nodes once b) (λ single.
       looked_at rule.Bound 15 _ tree (λ n b. unbound n f exprs nodes once single b) (λ bound.

@@ -3,7 +3,8 @@ use Rattle.std.proofs.Common.{◌≡◌, ℕ, zero, suc, ◌+◌, ◌<◌, ◌�
 use Rattle.lexer.specs.Tokens.{Sym}
 use Rattle.lexer.specs.Cuts.{Seen, found, end, bad, cut_at, Lawful}
 use Rattle.lexer.proofs.Longest.{law, some_bytes, token_within}
-use Rattle.grammar.specs.Grammar.{Tok, tok, formula, Tree, bottom, PhraseOf, FormulaOf}
+use Rattle.grammar.specs.Grammar.{Tok, tok, Tree, bottom, PhraseOf, FormulaOf}
+use Rattle.grammar.specs.declared.Level.TheVariants.{Formula as formula}
 use Rattle.grammar.specs.Machine.{Part, a_var, a_name, a_tree, Outcome, good, fail, whole, walk}
 use Rattle.grammar.proofs.Sound.{phrase_from}
 use Rattle.grammar.proofs.Sound as machine

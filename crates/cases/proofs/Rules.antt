@@ -4,14 +4,14 @@ use Rattle.std.proofs.lemmas.List.{get_or_past}
 use Rattle.std.proofs.lemmas.Bool.{both_ways, leb-true, le-leb, true≢false, cases_lt}
 use Rattle.std.proofs.lemmas.Bool.Decides.{Decides-like, Decides-not, Decides-and, Decides-or, Decides-ltb, Decides-eqb, Decides-below_or}
 use Rattle.formulas.specs.Tables.{Names, Binds, Tree}
-use Rattle.formulas.specs.Judge.{ExprFitsAt, NodeFitsAt, Rebinds, Unbound, OddBound, Keeps, Ready, naming, Climb, top, found, higher, after_not}
+use Rattle.formulas.specs.Judge.{ExprFitsAt, NodeFitsAt, Rebinds, Unbound, OddBound, Keeps, naming, Climb, top, found, higher, after_not}
 use Rattle.formulas.specs.declared.Expr.{Expr}
 use Rattle.formulas.specs.declared.Expr.TheVariants as ex
 use Rattle.formulas.specs.declared.Node.{Node}
 use Rattle.formulas.specs.declared.Node.TheVariants as nd
-use Rattle.formulas.specs.declared.judge.Rule.{Rule}
-use Rattle.formulas.specs.declared.judge.Rule.TheVariants as rule
-use Rattle.formulas.proofs.Climbing.{unbound_none, unbound_some, odd_iff, odd_none}
+use Rattle.formulas.specs.Rules.{Rule}
+use Rattle.formulas.specs.Rules as rule
+use Rattle.formulas.proofs.Climbing.{unbound_iff, odd_iff}
 use Rattle.cases.proofs.First.{first, IsFirst, here, nowhere, is_first}
 
 -- ---- single entries
@@ -303,16 +303,16 @@ module _ (ns : List Node) (tree : Tree ns) (n : ℕ) where
       of_variables (Unbound ns n) (λ v. missing (climbed ns v n)) (λ u. (u.0, u.1)) (λ v is. go v is (climbed ns v n) (climbs ns v n))
     where
       go : (v : ℕ) → get_or ns n nd.False ≡ nd.Variable v → (r : Option Bool) → Climb ns v n r → Decides (missing r) (Unbound ns n)
-      go v is None c = (λ _. unbound_none ns tree n v is c, λ _. refl)
-      go v is (Some o) c = never (unbound_some ns tree n v is o c)
+      go v is None c = decides_T true (unbound_iff ns tree n v is None true c refl)
+      go v is (Some o) c = decides_T false (unbound_iff ns tree n v is (Some o) false c refl)
 
   odd_decides : Decides (odd_bound ns n) (OddBound ns n)
   odd_decides =
       of_variables (OddBound ns n) (λ v. found_odd (climbed ns v n)) (λ b. (b.0, b.1)) (λ v is. go v is (climbed ns v n) (climbs ns v n))
     where
       go : (v : ℕ) → get_or ns n nd.False ≡ nd.Variable v → (r : Option Bool) → Climb ns v n r → Decides (found_odd r) (OddBound ns n)
-      go v is None c = never (odd_none ns tree n v is c)
-      go v is (Some o) c = decides_T o (odd_iff ns tree n v is o c)
+      go v is None c = decides_T false (odd_iff ns tree n v is None c)
+      go v is (Some o) c = decides_T o (odd_iff ns tree n v is (Some o) c)
 
 -- ---- the rules
 
@@ -327,6 +327,15 @@ keeps rule.Even es ns n = not (odd_bound ns n)
 decides_if : {P Q : Type 0} (x y : Bool) → Decides x P → Decides y Q → Decides (cond x y true) (P → Q)
 decides_if true y d e = (λ h _. e.0 h, λ f. e.1 (f (d.0 refl)))
 decides_if false y d e = (λ _ p. absurd (true≢false (sym (d.1 p))), λ _. refl)
+
+-- What is known when a rule is looked at: from the fifth on, the table is a tree.
+abbrev pub Ready : Rule → List Expr → List Node → Type 0
+Ready rule.Exprs es ns = Unit {0}
+Ready rule.Nodes es ns = Unit {0}
+Ready rule.NamedOnce es ns = Unit {0}
+Ready rule.BoundOnce es ns = Unit {0}
+Ready rule.Bound es ns = Tree ns
+Ready rule.Even es ns = Tree ns
 
 pub keeps_decides : (r : Rule) (es : List Expr) (ns : List Node) → Ready r es ns → (n : ℕ) → Decides (keeps r es ns n) (Keeps r es ns n)
 keeps_decides rule.Exprs es ns ready n = expr_decides n (get_or es n ex.False)

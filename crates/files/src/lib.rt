@@ -16,14 +16,8 @@ pub fn missing_as_empty(alloc: Global, read: io::Result<Vec<u8>>) -> io::Result<
     ensures failed { IfErr read (λ e. error_kind e ≢ NotFound → result ≡ Err e) }
 {
     match read {
-        Ok(bytes) => Ok(bytes),
-        Err(e) => {
-            if e.kind() == ErrorKind::NotFound {
-                Ok(Vec::new(alloc))
-            } else {
-                Err(e)
-            }
-        }
+        Err(e) if e.kind() == ErrorKind::NotFound => Ok(Vec::new(alloc)),
+        other => other,
     }
 }
 

@@ -11,11 +11,11 @@ module _ (family actions features : List ℕ) (f : Family) (fresh : f ≡ opened
   on_opened : load_answer (opened 64) family ≡ answer
   on_opened = sym (is ∙ ap (λ g. load_answer g family) fresh)
 
-  pub by_book : ¬ (answer.0 ≡ 0) → (bs : List ℕ) → bs ≡ codes "book " ++ two_numbers answer.0 answer.1 → TurnedAway family actions features bs
-  by_book bad bs e = subst (TurnedAway family actions features) (sym e) (bad_book on_opened bad)
+  pub by_book : ¬ (answer.0 ≡ 0) → TurnedAway family actions features (codes "book " ++ two_numbers answer.0 answer.1)
+  by_book bad = bad_book on_opened bad
 
-  pub by_words : answer.0 ≡ 0 → ¬ Worded actions features → (bs : List ℕ) → bs ≡ codes "words 21 0" → TurnedAway family actions features bs
-  by_words good bad bs e = subst (TurnedAway family actions features) (sym e) (bad_words (ap (λ x. x.0) on_opened ∙ good) bad)
+  pub by_words : answer.0 ≡ 0 → ¬ Worded actions features → TurnedAway family actions features (codes "words 21 0")
+  by_words good bad = bad_words (ap (λ x. x.0) on_opened ∙ good) bad
 
 -- A list that is found not to keep its form.
 pub no_form : (b : Bool) {limit : ℕ} {xs ys : List ℕ} → T b ↔ InForm limit xs → xs ≡ ys → b ≡ false → ¬ InForm limit ys

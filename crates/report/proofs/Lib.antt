@@ -1,6 +1,5 @@
 mod Begins
 mod Checks
-mod Figures
 mod Kept
 mod Runs
 mod Texts

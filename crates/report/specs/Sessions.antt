@@ -1,5 +1,5 @@
 -- How a session begins: with a family and two word lists, or with a line that says why not.
-use Rattle.std.specs.Prelude.{◌≡◌, ℕ, List, ◌++◌, vec_items, string_bytes, codes}
+use Rattle.std.specs.Prelude.{◌≡◌, ℕ, List, ◌++◌, Ok, Err, Result, vec_items, codes}
 use Rattle.families.specs.Families.{Family}
 use Rattle.words.specs.Words.{InForm}
 use Rattle.book.specs.Rules.{opened}
@@ -7,8 +7,8 @@ use Rattle.book.specs.Loads.{load_answer, load_after}
 use Rattle.book.specs.Contents.{closed_contents}
 use Rattle.report.specs.Lines.{two_numbers}
 use Rattle.report.specs.declared.session.Session.{Session}
-use Rattle.report.specs.declared.session.Opening.{Opening}
-use Rattle.report.specs.declared.session.Opening.TheVariants.{Refused, Ready}
+use Rattle.report.specs.declared.session.Unopened.{Unopened}
+use Rattle.report.specs.declared.session.Unopened.TheVariants.{Book, Words}
 
 abbrev pub family_of : Session → Family
 family_of s = closed_contents s.book
@@ -36,6 +36,11 @@ pub record Begun (family actions features : List ℕ) (s : Session) : Type 0 whe
   pub same_actions : actions_of s ≡ actions
   pub same_features : features_of s ≡ features
 
-abbrev pub Opens : List ℕ → List ℕ → List ℕ → Opening → Type 0
-Opens family actions features (Refused line) = TurnedAway family actions features (string_bytes line)
-Opens family actions features (Ready s) = Begun family actions features s
+-- What is printed of a session that does not begin.
+abbrev pub line_of : Unopened → List ℕ
+line_of (Book k v) = codes "book " ++ two_numbers k v
+line_of Words = codes "words 21 0"
+
+abbrev pub Opens : List ℕ → List ℕ → List ℕ → Result Session Unopened → Type 0
+Opens family actions features (Err u) = TurnedAway family actions features (line_of u)
+Opens family actions features (Ok s) = Begun family actions features s

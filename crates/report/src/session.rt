@@ -1,30 +1,26 @@
 // A session: a family and two word lists, against which formula texts are checked.
-ghost use Rattle.std.specs.Prelude.{◌≡◌, ◌≤◌, length, IfOk};
+ghost use Rattle.std.specs.Prelude.{◌≡◌, ◌≤◌, length, IfOk, Some};
 ghost use Rattle.formulas.specs.Tables.{formula_at, last};
 ghost use Rattle.report.specs.Answers.{Answer, Checked};
-ghost use Rattle.report.specs.Sessions.{Opens, family_of, actions_of, features_of};
+ghost use Rattle.report.specs.Sessions.{Opens, line_of, family_of, actions_of, features_of};
 ghost use Rattle.report.specs.Verdicts.{outcome_of};
 
 use crate::digits::Digits;
-use crate::verdict::Verdict;
+use crate::verdict::Refused;
 use book::books::{ClosedBook, OpenBook};
-use formulas::judge::ACCEPTED;
+use families::ACCEPTED;
+use formulas::judge::MAX_ENTRIES;
 use formulas::{Expr, Node};
 use product_sets::{Kind, Mask};
-use reader::read;
+use reader::{MAX_ACTIONS, MAX_FEATURES, read};
 use std::alloc::{AllocError, Global};
+use std::fmt;
 use words::keeps_form;
 
 const STATES: usize = 64;
 
-const ENTRIES: usize = 64;
-
 // A cell for each entry and state.
-const CELLS: usize = 4096;
-
-const MAX_ACTIONS: u8 = 64;
-
-const MAX_FEATURES: u8 = 16;
+const CELLS: usize = MAX_ENTRIES * STATES;
 
 #[derive(Drop)]
 pub struct Session {
@@ -33,11 +29,23 @@ pub struct Session {
     features: Vec<u8>,
 }
 
-// How a session begins, or the line that says why it does not.
-#[derive(Drop)]
-pub enum Opening {
-    Refused(String),
-    Ready(Session),
+// Why a session does not begin: the refusal of the family file and its value, or word lists that do not keep their form.
+#[derive(Clone, Copy, Debug, PartialEq, Eq)]
+pub enum Unopened {
+    Book(u8, usize),
+    Words,
+}
+
+// The one line that is written then.
+impl fmt::Display for Unopened {
+    ghost output = { λ u. Some (line_of u) };
+
+    fn fmt<W: fmt::Write>(&self, f: &mut fmt::Formatter<W>) -> fmt::Result {
+        match self {
+            Unopened::Book(number, value) => write!(f, "book {number} {value}"),
+            Unopened::Words => f.write_str("words 21 0"),
+        }
+    }
 }
 
 impl Session {
@@ -47,18 +55,18 @@ impl Session {
         family: &[u8],
         actions: Vec<u8>,
         features: Vec<u8>,
-    ) -> Result<Opening, AllocError>
+    ) -> Result<Result<Session, Unopened>, AllocError>
         ensures { IfOk result (Opens family.now actions.items features.items) }
     {
         let (_, mut book) = OpenBook::open(heap, STATES)?;
         let (number, value) = book.load(family);
         if number != ACCEPTED {
-            return Ok(Opening::Refused(format!(in heap; "book {number} {value}")?));
+            return Ok(Err(Unopened::Book(number, value)));
         }
         if !keeps_form(&actions, MAX_ACTIONS) || !keeps_form(&features, MAX_FEATURES) {
-            return Ok(Opening::Refused(String::from_str(heap, "words 21 0")?));
+            return Ok(Err(Unopened::Words));
         }
-        Ok(Opening::Ready(Session {
+        Ok(Ok(Session {
             book: book.close(),
             actions,
             features,
@@ -66,18 +74,15 @@ impl Session {
     }
 
     // Reads a text and checks its formula for every product.
-    pub fn verdict(&self, text: &[u8]) -> Verdict
+    pub fn verdict(&self, text: &[u8]) -> Result<Digits, Refused>
         ensures { Answer (family_of self.now) (actions_of self.now) (features_of self.now) text.now (outcome_of result) }
     {
-        let mut exprs = [Expr::False; ENTRIES];
-        let mut nodes = [Node::False; ENTRIES];
-        let (refusal, value) = read(text, &self.actions, &self.features, &mut exprs, &mut nodes);
-        if refusal != ACCEPTED {
-            return Verdict::Refused(refusal, value);
-        }
+        let mut exprs = [Expr::False; MAX_ENTRIES];
+        let mut nodes = [Node::False; MAX_ENTRIES];
+        let count = read(text, &self.actions, &self.features, &mut exprs, &mut nodes)?;
         let mut kind = Mask;
         let mut cells = [kind.none(); CELLS];
-        self.checked(&exprs, &nodes[0..value], &mut kind, &mut cells)
+        self.checked(&exprs, &nodes[0..count], &mut kind, &mut cells)
     }
 
     // Checks tables with a kind of 64 places, in cells that suffice for all tables.
@@ -87,15 +92,15 @@ impl Session {
         nodes: &[Node],
         kind: &mut K,
         cells: &mut [K::Set],
-    ) -> Verdict
+    ) -> Result<Digits, Refused>
         requires { (K.places ≡ 64) × (4096 ≤ length cells.old) }
         ensures { Checked (family_of self.now) exprs.now nodes.now (formula_at exprs.now nodes.now (last nodes.now)) (outcome_of result) }
     {
-        let (refusal, value) = self.book.check(exprs, nodes, kind, cells);
-        if refusal != ACCEPTED {
-            return Verdict::Refused(refusal, value);
+        let (number, value) = self.book.check(exprs, nodes, kind, cells);
+        if number != ACCEPTED {
+            return Err(Refused { number, value });
         }
         let whole = cells[(nodes.len() - 1) * self.book.states()];
-        Verdict::Answered(Digits::of(kind, whole, self.book.products().len()))
+        Ok(Digits::of(kind, whole, self.book.products().len()))
     }
 }

@@ -4,13 +4,14 @@ ghost use Rattle.report.specs.Sessions.{family_of, actions_of, features_of};
 ghost use Rattle.report.specs.Transcripts.{kept, next, Told, Tells, Transcribed};
 
 use crate::session::Session;
+use crate::verdict::line;
 use std::alloc::{AllocError, Global};
 
 // One byte more than a text may have, so that what is kept of a longer line is refused too.
 const KEPT: usize = 1025;
 
 // The line that is being read, as far as it is kept, and its number. Room for it is reserved, so no memory is
-// wanted while it grows.
+// wanted while it grows. What a call leaves as it was, as the session, each call says.
 #[derive(Drop)]
 pub struct Transcript {
     session: Session,
@@ -44,7 +45,7 @@ impl Transcript {
         let verdict = self.session.verdict(&self.line);
         self.line.clear();
         self.number = number.saturating_add(1);
-        verdict.line(heap, number)
+        line(heap, number, &verdict)
     }
 
     // Takes the next byte of the input, and gives the answer if a line ends with it.

@@ -1,48 +1,48 @@
 // The answer to one formula text, and the line that tells it.
-ghost use Rattle.std.specs.Prelude.{◌≡◌, ◌++◌, map, IfOk, string_bytes, codes, decimal};
-ghost use Rattle.report.specs.Lines.{digit, two_numbers, written};
+ghost use Rattle.std.specs.Prelude.{◌≡◌, ◌++◌, Some, IfOk, string_bytes, codes};
+ghost use Rattle.reader.specs.Refusals.{refusal_number, refusal_value};
+ghost use Rattle.report.specs.Lines.{two_numbers, written};
 ghost use Rattle.report.specs.Verdicts.{outcome_of};
 
 use crate::digits::Digits;
+use reader::Refusal;
 use std::alloc::{AllocError, Global};
+use std::fmt;
 
-// What is answered to a text: digits, or the number of a refusal and its value.
-#[derive(Clone, Copy)]
-pub enum Verdict {
-    Answered(Digits),
-    Refused(u8, usize),
+// What is answered to a text that gets no digits: the number of a refusal and its value.
+#[derive(Clone, Copy, Debug, PartialEq, Eq)]
+pub struct Refused {
+    pub number: u8,
+    pub value: usize,
 }
 
-fn glyph(holds: bool) -> char
-    ensures { result ≡ digit holds }
-{
-    if holds { '1' } else { '0' }
-}
+impl From<Refusal> for Refused {
+    ghost from_gives = { λ r s. (s.number ≡ refusal_number r) × (s.value ≡ refusal_value r) };
 
-fn digits_line(heap: Global, number: u64, digits: &[bool]) -> Result<String, AllocError>
-    ensures { IfOk result (λ s. string_bytes s ≡ decimal number ++ (codes " " ++ map digit digits.now)) }
-{
-    let mut line = format!(in heap; "{number} ")?;
-    for holds in digits {
-        line.push(glyph(*holds))?;
+    fn from(refusal: Refusal) -> Refused {
+        let (number, value) = refusal.into();
+        Refused { number, value }
     }
-    Ok(line)
 }
 
-fn refusal_line(heap: Global, number: u64, refusal: u8, value: usize) -> Result<String, AllocError>
-    ensures { IfOk result (λ s. string_bytes s ≡ decimal number ++ (codes " refused " ++ two_numbers refusal value)) }
+impl fmt::Display for Refused {
+    ghost output = { λ r. Some (codes "refused " ++ two_numbers r.number r.value) };
+
+    fn fmt<W: fmt::Write>(&self, f: &mut fmt::Formatter<W>) -> fmt::Result {
+        write!(f, "refused {} {}", self.number, self.value)
+    }
+}
+
+// The line, without its end, for the answer to line `number` of the input.
+pub fn line(
+    heap: Global,
+    number: u64,
+    verdict: &Result<Digits, Refused>,
+) -> Result<String, AllocError>
+    ensures { IfOk result (λ s. string_bytes s ≡ written number (outcome_of verdict.now)) }
 {
-    format!(in heap; "{number} refused {refusal} {value}")
-}
-
-impl Verdict {
-    // The line, without its end, for the answer to line `number` of the input.
-    pub fn line(&self, heap: Global, number: u64) -> Result<String, AllocError>
-        ensures { IfOk result (λ s. string_bytes s ≡ written number (outcome_of self.now)) }
-    {
-        match self {
-            Verdict::Answered(digits) => digits_line(heap, number, digits.as_slice()),
-            Verdict::Refused(refusal, value) => refusal_line(heap, number, *refusal, *value),
-        }
+    match verdict {
+        Ok(digits) => format!(in heap; "{number} {digits}"),
+        Err(refused) => format!(in heap; "{number} {refused}"),
     }
 }

@@ -3,7 +3,7 @@ use Rattle.std.proofs.Common.{◌≡◌, ℕ, List, take, refl, arith}
 use Rattle.std.specs.List.{ContainsAt as Has}
 use Rattle.formulas.specs.declared.Expr.{Expr}
 use Rattle.formulas.specs.declared.Node.{Node}
-use Rattle.formulas.specs.declared.judge.Rule.TheVariants as rule
+use Rattle.formulas.specs.Rules as rule
 use Rattle.formulas.specs.Judge.{Few, Kept, Judged, bad_size, bad_expr, bad_node, not_named_once, bound_twice, unbound, oddly_bound, accepted}
 use Rattle.formulas.proofs.One.{not_both}
 use Rattle.reader.specs.Outcome.{Tried, long_text, no_words, no_token, no_formula, unknown_name, too_many}

@@ -2,7 +2,7 @@
 #![tactic(auto)]
 
 use files::bytes_or_none;
-use report::session::{Opening, Session};
+use report::session::Session;
 use report::transcript::Transcript;
 use std::io::Read;
 
@@ -24,6 +24,7 @@ fn answer_input(rt: &HostRuntime, session: Session) -> anyhow::Result<()> {
     let mut transcript = Transcript::new(rt.alloc(), session)?;
     let mut input = rt.stdin();
     let mut buffer = [0u8; BUFFER];
+    // A loop that waits on input has to be counted.
     for _ in 0..u64::MAX {
         let count = input.read(&mut buffer)?;
         if count == 0 {
@@ -42,8 +43,8 @@ fn run(rt: &HostRuntime) -> anyhow::Result<()> {
     let actions = bytes_or_none(rt, "actions.txt")?;
     let options = bytes_or_none(rt, "options.txt")?;
     match Session::open(rt.alloc(), &family, actions, options)? {
-        Opening::Refused(line) => rt.println(line)?,
-        Opening::Ready(session) => answer_input(rt, session)?,
+        Ok(session) => answer_input(rt, session)?,
+        Err(unopened) => rt.println(unopened)?,
     }
     Ok(())
 }

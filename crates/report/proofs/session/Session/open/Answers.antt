@@ -6,7 +6,7 @@ use Rattle.report.proofs.session.Session.open.Goals.{then-not-keeps_form-via-the
 
 pub returns-then-number-ne-ACCEPTED : goal.returns-then-number-ne-ACCEPTED
 returns-then-number-ne-ACCEPTED c =
-    by_book _ _ _ _ c.in_ok-book.ensures.1 c.load-number.result c.load-number.ensures.answer (λ e. omega arith) _ c.in_ok-format.ensures.ok
+    by_book _ _ _ _ c.in_ok-book.ensures.1 c.load-number.result c.load-number.ensures.answer (λ e. omega arith)
 
 no_words : (c : goal.After-drop-actions-then-not-keeps_form) → ¬ Worded c.args.actions.items c.args.features.items
 no_words c w =
@@ -17,4 +17,4 @@ no_words c w =
 
 pub returns-then-not-keeps_form : goal.returns-then-not-keeps_form
 returns-then-not-keeps_form c =
-    by_words _ _ _ _ c.in_ok-book.ensures.1 c.load-number.result c.load-number.ensures.answer (omega arith) (no_words c) _ c.in_ok-from_str.ensures.ok
+    by_words _ _ _ _ c.in_ok-book.ensures.1 c.load-number.result c.load-number.ensures.answer (omega arith) (no_words c)

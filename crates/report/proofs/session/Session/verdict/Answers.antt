@@ -1,18 +1,33 @@
-use Rattle.std.proofs.Common.{◌≤◌, refl, rules}
+use Rattle.std.proofs.Common.{◌≡◌, ◌≤◌, refl, arith, rules}
+use Rattle.std.proofs.lemmas.Result.{err_from_is_err_and}
+use Rattle.reader.specs.Refusals.{refusal_number}
+use Rattle.reader.specs.declared.refusals.Refusal.{Refusal}
+use Rattle.reader.specs.declared.refusals.Refusal.TheVariants as rf
 use Rattle.report.specs.Answers.{unread}
 use Rattle.report.specs.Sessions.{family_of, actions_of, features_of}
 use Rattle.report.specs.Verdicts.{outcome_of}
 use Rattle.report.proofs.Texts.{tried_of, few_read, answer_read}
 use Rattle.report.proofs.session.Session.verdict.Goals as goal
 
-pub returns-then-refusal-ne-ACCEPTED : goal.returns-then-refusal-ne-ACCEPTED
-returns-then-refusal-ne-ACCEPTED c = unread (tried_of c.deref.ensures.value c.deref-2.ensures.value refl refl c.read-refusal.ensures) c.if-refusal-ne-ACCEPTED.true
+not_zero : (r : Refusal) → ¬ (refusal_number r ≡ 0)
+not_zero rf.ShortTable e = omega arith
+not_zero rf.LongText e = omega arith
+not_zero rf.WordList e = omega arith
+not_zero (rf.NoToken p) e = omega arith
+not_zero (rf.NoFormula p) e = omega arith
+not_zero (rf.UnknownName p) e = omega arith
+not_zero rf.TooManyEntries e = omega arith
+
+pub returns-in_err-count : goal.returns-in_err-count
+returns-in_err-count c =
+    let p = err_from_is_err_and c.from_residual.result c.from_residual.ensures.1 in
+    rw (p.1, p.2.0, p.2.1) (unread (tried_of c.deref.ensures.value c.deref-2.ensures.value refl refl c.in_err-count.ensures) (not_zero _))
 
 pub slice_bounds-checked-end-2 : goal.slice_bounds-checked-end-2
 slice_bounds-checked-end-2 c =
-    let few : c.read-refusal.result.1 ≤ 64 = few_read c.if-refusal-ne-ACCEPTED.false (tried_of c.deref.ensures.value c.deref-2.ensures.value refl refl c.read-refusal.ensures) in search rules
+    let few : c.in_ok-count.count ≤ 64 = few_read refl (tried_of c.deref.ensures.value c.deref-2.ensures.value refl refl c.in_ok-count.ensures) in search rules
 
 pub returns : goal.returns
 returns c =
-    answer_read (family_of c.args.self.now) c.args.text.now (actions_of c.args.self.now) (features_of c.args.self.now) c.if-refusal-ne-ACCEPTED.false
-    (tried_of c.deref.ensures.value c.deref-2.ensures.value refl refl c.read-refusal.ensures) _ (search rules) (outcome_of c.checked.result) c.checked.ensures
+    answer_read (family_of c.args.self.now) c.args.text.now (actions_of c.args.self.now) (features_of c.args.self.now) refl
+    (tried_of c.deref.ensures.value c.deref-2.ensures.value refl refl c.in_ok-count.ensures) _ (search rules) (outcome_of c.checked.result) c.checked.ensures
