@@ -15,6 +15,8 @@ pub const MAX_FEATURE: u8 = 15;
 
 pub const MAX_VARIABLE: u8 = 25;
 
+pub const VARIABLES: usize = MAX_VARIABLE as usize + 1;
+
 // Why a pair of tables is refused, with the first entry that breaks the rule.
 #[derive(Clone, Copy, Debug, PartialEq, Eq)]
 pub enum Unsound {
@@ -195,6 +197,7 @@ fn each<F: Fn(usize) -> bool>(count: usize, keeps: F) -> Result<(), usize>
     ensures kept { IfOk result (λ _. (n : ℕ) → n < count → F.post keeps n true) }
     ensures first { IfErr result (λ n. (n < count) × F.post keeps n false × ((m : ℕ) → m < n → F.post keeps m true)) }
 {
+    // A `for`, since of `find` over a range the proof learns too little of what the closure answered.
     for n in 0..count {
         if !keeps(n) {
             return Err(n);
