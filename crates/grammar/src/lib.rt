@@ -4,7 +4,7 @@
 ghost use Rattle.grammar.specs.Viable.{Decided, Unambiguous, OneOffence};
 
 // Formulas and the expressions in them are built alike.
-#[derive(Clone, Copy, PartialEq, Eq)]
+#[derive(Clone, Copy, Debug, PartialEq, Eq)]
 pub enum Level {
     Formula,
     Expression,

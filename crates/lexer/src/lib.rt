@@ -46,7 +46,7 @@ pub struct Found<'a> {
 }
 
 // Why no token was found: the text ends, or no token begins at the next byte. Each has its place.
-#[derive(Clone, Copy, PartialEq, Eq)]
+#[derive(Clone, Copy, Debug, PartialEq, Eq)]
 pub enum Stop {
     End(usize),
     Bad(usize),
@@ -89,16 +89,12 @@ fn word<'a>(bytes: &'a [u8], place: usize) -> Token<'a>
     ensures value { sym_of result ≡ word_of bytes.now }
     ensures place { Placed result place }
 {
-    if bytes == b"mu".as_slice() {
-        Token::Sign(Sign::Mu)
-    } else if bytes == b"nu".as_slice() {
-        Token::Sign(Sign::Nu)
-    } else if bytes == b"true".as_slice() {
-        Token::Sign(Sign::True)
-    } else if bytes == b"false".as_slice() {
-        Token::Sign(Sign::False)
-    } else {
-        Token::Name(bytes, place)
+    match bytes {
+        b"mu" => Token::Sign(Sign::Mu),
+        b"nu" => Token::Sign(Sign::Nu),
+        b"true" => Token::Sign(Sign::True),
+        b"false" => Token::Sign(Sign::False),
+        _ => Token::Name(bytes, place),
     }
 }
 

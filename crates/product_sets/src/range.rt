@@ -8,7 +8,7 @@ use crate::kind::Kind;
 use crate::turns::{PLACES, RangeSet, inside_after};
 
 // One pass through both lists of turning places, for an operation that is out where both sides are: each turn of the
-// loop takes the smaller next place, on both sides where they are equal.
+// loop takes the smaller next place, on both sides where they are equal, with a cursor in each list.
 fn merged<F: Fn(bool, bool) -> bool>(a: &RangeSet, b: &RangeSet, operation: F) -> RangeSet
     requires callable { F.IsAlwaysCallable operation }
     requires outside { F.post operation false false false }

@@ -63,11 +63,9 @@ impl RangeSet {
     pub(crate) fn next(&self, i: usize) -> usize
         ensures { result ≡ next self.now.turns self.now.count i }
     {
-        if i < self.count {
-            usize::from(self.turns[i])
-        } else {
-            PLACES
-        }
+        self.turning()
+            .get(i)
+            .map_or(PLACES, |turn| usize::from(*turn))
     }
 
     // How many turning places lie at or below `place`, if i of them lie below it.

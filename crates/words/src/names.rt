@@ -19,7 +19,7 @@ pub struct Names<'a> {
 impl<'a> Names<'a> {
     // The list, if it keeps its form.
     pub fn new(list: &'a [u8], limit: u8) -> Option<Names<'a>>
-        ensures { MatchOption result (InForm limit list.now → ⊥) (λ names. InForm limit list.now × (names.list.now ≡ list.now)) }
+        ensures { MatchOption result (InForm limit list.now → ⊥) (λ names. InForm limit list.now × (names.list.now ≡ list.now) × (names.limit ≡ limit)) }
     {
         if keeps_form(list, limit) {
             Some(Names { list, limit })
@@ -32,6 +32,7 @@ impl<'a> Names<'a> {
     pub fn number(self, name: &[u8]) -> Option<u8>
         ensures { (ws : List (List ℕ)) → IsCutInto self.entry.list.now ws → result ≡ number ws name.now }
     {
+        // Nothing is lost: a list has at most 255 names.
         find(self.list, name).map(|k| k as u8)
     }
 }
