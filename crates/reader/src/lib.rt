@@ -11,7 +11,8 @@ ghost use Rattle.reader.specs.Outcome.{Lexed, Attempted, Reading, answer_number,
 ghost use Rattle.formulas.specs.declared.Expr.TheVariants as ex;
 ghost use Rattle.formulas.specs.declared.Node.TheVariants as nd;
 
-use formulas::judge::MAX_ENTRIES;
+use families::MAX_ACTION;
+use formulas::judge::{MAX_ENTRIES, MAX_FEATURE};
 use formulas::{Expr, Node};
 use lexer::{Stop, next_token};
 use parser::parse;
@@ -19,17 +20,18 @@ pub use refusals::Refusal;
 use words::Names;
 
 // How many bytes a text has at most.
-const LONGEST_TEXT: usize = 1024;
+pub const LONGEST_TEXT: usize = 1024;
 
 // How many names the two word lists have at most.
-pub const MAX_ACTIONS: u8 = 64;
+pub const MAX_ACTIONS: u8 = MAX_ACTION + 1;
 
-pub const MAX_FEATURES: u8 = 16;
+pub const MAX_FEATURES: u8 = MAX_FEATURE + 1;
 
 // Refuses a text at the first place where no token begins, or a name that is too long.
 fn check_tokens(text: &[u8]) -> Result<(), Refusal>
     ensures { Lexed text.now result }
 {
+    // Each turn goes on where the last token ended; an iterator of tokens would keep the same place.
     let mut at = 0;
     loop {
         match next_token(text, at) {

@@ -96,7 +96,8 @@ impl<'t, 'x, 'e, 'y, 'n> Reader<'t, 'x, 'e, 'y, 'n> {
         }
     }
 
-    // The number that a name was found to have; if it has none, the name's place is noted.
+    // The number that a name was found to have; if it has none, the name's place is noted, and 0 will
+    // do in an entry of a text that is refused.
     fn number(&mut self, found: Option<u8>, place: usize) -> u8
         ensures keeps { Keeps self.old self.new }
         ensures same_tables { (self.new.nodes ≡ self.old.nodes) × (self.new.exprs ≡ self.old.exprs) }
@@ -122,7 +123,7 @@ impl<'t, 'x, 'e, 'y, 'n> Reader<'t, 'x, 'e, 'y, 'n> {
         Ok(self.enter_expr(Expr::Feature(k)))
     }
 
-    // The token that comes next.
+    // The token that comes next; the end of the text offends as a bad byte does.
     fn peek(&self) -> Result<Found<'t>, Offence>
         requires { Inside self.now }
         ensures { Peeks self.now result }
@@ -337,7 +338,8 @@ fn only_at(wanted: Level, level: Level, place: usize) -> Result<(), Offence>
     }
 }
 
-// The sign that closes what a modality's sign opens.
+// The sign that closes what a modality's sign opens. Here and below a sign stands for the modality or the fixpoint that it
+// begins, and no other comes.
 fn closing(sign: Sign) -> Sign
     ensures { (m : Modality) → sign ≡ opening m → result ≡ closing m }
 {

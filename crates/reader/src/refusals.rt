@@ -1,4 +1,4 @@
-// Why a text is refused.
+// Refusals of texts, and their numbers.
 ghost use Rattle.std.specs.Prelude.{◌≡◌};
 ghost use Rattle.reader.specs.Refusals.{refusal_number, refusal_value, offence_refusal};
 
@@ -32,7 +32,7 @@ impl From<Refusal> for (u8, usize) {
 }
 
 // The place from which a text cannot go on to a formula.
-#[derive(Clone, Copy)]
+#[derive(Clone, Copy, Debug, PartialEq, Eq)]
 pub struct Offence(pub usize);
 
 impl From<Offence> for Refusal {

@@ -1,10 +1,9 @@
-// What both tables have entries of. Each table has a conversion, since its entries are of a type of their own.
+// Entries that a formula table and an expression table both have, and how each table writes them.
 ghost use Rattle.std.specs.Prelude.{◌≡◌};
 ghost use Rattle.reader.specs.Shapes.{as_node, as_expr};
 
 use formulas::{Expr, Node};
 
-// The entries that both tables have.
 #[derive(Clone, Copy)]
 pub enum Shape {
     False,
