@@ -59,7 +59,7 @@ impl FamilyView<'_> {
         count
     }
 
-    // Whether there is room: sound tables, a kind with enough places, and a cell for each entry and state.
+    // The tables, if they are sound, the kind has enough places, and there is a cell for each entry and state.
     fn admitted<'t, K: Kind>(
         &self,
         exprs: &'t [Expr],

@@ -7,7 +7,8 @@ ghost use Rattle.checker.specs.Gathered.{family_of, Collects, Passing, Everyone,
 
 use crate::rows::without;
 use crate::view::FamilyView;
-use formulas::judge::SoundTables;
+use families::MAX_TRANSITIONS;
+use formulas::judge::{MAX_ENTRIES, SoundTables, VARIABLES};
 use formulas::{Expr, Node};
 use product_sets::Kind;
 
@@ -29,12 +30,17 @@ impl FamilyView<'_> {
     }
 
     // For each transition the products that meet its condition.
-    pub(crate) fn conditions<K: Kind>(&self, filler: K::Set, kind: &mut K) -> [K::Set; 256]
+    pub(crate) fn conditions<K: Kind>(
+        &self,
+        filler: K::Set,
+        kind: &mut K,
+    ) -> [K::Set; MAX_TRANSITIONS]
         requires fits { length self.now.products.now ≤ K.places }
         ensures value { Meeting (K.means kind.old) (family_of self.now) result filler }
         ensures kept { K.means kind.new ≡ K.means kind.old }
     {
-        let mut sets = [filler; 256];
+        let mut sets = [filler; MAX_TRANSITIONS];
+        // By number: the array has a place for each transition that there may be.
         for (i, transition) in self.transitions.iter().enumerate() {
             sets[i] = self.products_where(|configuration| transition.met_by(configuration), kind);
         }
@@ -47,7 +53,7 @@ impl FamilyView<'_> {
         tables: &SoundTables<'_>,
         n: usize,
         all: K::Set,
-        sets: &[K::Set; 64],
+        sets: &[K::Set; MAX_ENTRIES],
         kind: &mut K,
     ) -> K::Set
         requires fits { (length self.now.products.now ≤ K.places) × (n < length tables.now.exprs.now) }
@@ -74,13 +80,13 @@ impl FamilyView<'_> {
         tables: &SoundTables<'_>,
         all: K::Set,
         kind: &mut K,
-    ) -> [K::Set; 64]
+    ) -> [K::Set; MAX_ENTRIES]
         requires fits { length self.now.products.now ≤ K.places }
         requires everyone { Everyone (K.means kind.old) (family_of self.now) all }
         ensures value { Satisfying (K.means kind.old) (family_of self.now) tables.now.exprs.now result all (length tables.now.exprs.now) }
         ensures kept { K.means kind.new ≡ K.means kind.old }
     {
-        let mut sets = [all; 64];
+        let mut sets = [all; MAX_ENTRIES];
         for n in 0..tables.exprs.len() {
             sets[n] = self.satisfying(tables, n, all, &sets, kind);
         }
@@ -89,10 +95,10 @@ impl FamilyView<'_> {
 }
 
 // For each variable the entry of its fixpoint.
-pub(crate) fn fixpoints(tables: &SoundTables<'_>) -> [usize; 26]
+pub(crate) fn fixpoints(tables: &SoundTables<'_>) -> [usize; VARIABLES]
     ensures { Found tables.now.nodes.now result }
 {
-    let mut found = [0; 26];
+    let mut found = [0; VARIABLES];
     for (n, node) in tables.nodes.iter().enumerate() {
         if let Node::Least(v, _) | Node::Greatest(v, _) = *node {
             found[usize::from(v)] = n;

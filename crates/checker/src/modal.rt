@@ -2,10 +2,11 @@
 ghost use Rattle.std.specs.Prelude.{◌≡◌, ℕ, ◌+◌, ◌*◌, ◌<◌, ◌≤◌, ◌&&◌, ◌||◌, T, ◌↔◌, length, slice_index_or};
 ghost use Rattle.families.specs.Families.{count};
 ghost use Rattle.checker.specs.Gathered.{family_of, rows_of, Collects, Everyone, Meeting};
-ghost use Rattle.checker.specs.Walks.{OnlyRow, SomeLeads, AllLead};
+ghost use Rattle.checker.specs.Walks.{HasRow, OnlyRow, SomeLeads, AllLead};
 
 use crate::rows::{without, write_row};
 use crate::walk::Walk;
+use families::MAX_STATES;
 use product_sets::Kind;
 
 // A set, and the products that meet a condition and are in the set at the target.
@@ -20,12 +21,17 @@ fn with_led<K: Kind>(kind: &mut K, set: K::Set, condition: K::Set, target: K::Se
 impl<K: Kind> Walk<'_, K> {
     // For each state the products with an own transition by the action into the targets. Like transitions are
     // joined: it is enough that the condition of one is met.
-    fn sources(&self, action: u8, targets: &[K::Set; 64], kind: &mut K) -> [K::Set; 64]
+    fn sources(
+        &self,
+        action: u8,
+        targets: &[K::Set; MAX_STATES],
+        kind: &mut K,
+    ) -> [K::Set; MAX_STATES]
         requires meeting { Meeting (K.means kind.old) (family_of self.now.view) self.now.conditions.now self.now.all }
         ensures value { (s : ℕ) → s < self.now.view.states → Collects (K.means kind.old) (family_of self.now.view) (slice_index_or result s self.now.all) (SomeLeads (family_of self.now.view) action (λ u. K.means kind.old (slice_index_or targets.now u self.now.all)) s) }
         ensures kept { K.means kind.new ≡ K.means kind.old }
     {
-        let mut leading = [kind.none(); 64];
+        let mut leading = [kind.none(); MAX_STATES];
         // By number: with `zip` the loop would go by an iterator, and its invariant have to say what that has left.
         for (i, transition) in self.view.transitions.iter().enumerate() {
             if transition.action == action {
@@ -48,7 +54,7 @@ impl<K: Kind> Walk<'_, K> {
         cells: &mut [K::Set],
     )
         requires meeting { Meeting (K.means kind.old) (family_of self.now.view) self.now.conditions.now self.now.all }
-        requires fits { (n * self.now.view.states + self.now.view.states ≤ length cells.old) × (c * self.now.view.states + self.now.view.states ≤ length cells.old) }
+        requires fits { (HasRow self.now.view.states n cells.old) × (HasRow self.now.view.states c cells.old) }
         ensures value { (s p : ℕ) → s < self.now.view.states → T (rows_of (K.means kind.old) self.now cells.new n s p) ↔ (T (K.means kind.old chosen p) × ((p < count (family_of self.now.view)) × SomeLeads (family_of self.now.view) action (rows_of (K.means kind.old) self.now cells.old c) s p)) }
         ensures others { OnlyRow self.now.view.states n cells.old cells.new }
         ensures kept { K.means kind.new ≡ K.means kind.old }
@@ -65,7 +71,8 @@ impl<K: Kind> Walk<'_, K> {
         );
     }
 
-    // Writes the row of entry n, a box over the part c for the chosen products: no transition leads out of the part.
+    // Writes the row of entry n, a box over the part c for the chosen products: no transition leads out of the part. It
+    // differs from a diamond in the row that transitions lead into and in the last step, so they share the rest by calls.
     pub(crate) fn box_over(
         &self,
         action: u8,
@@ -77,7 +84,7 @@ impl<K: Kind> Walk<'_, K> {
     )
         requires everyone { Everyone (K.means kind.old) (family_of self.now.view) self.now.all }
         requires meeting { Meeting (K.means kind.old) (family_of self.now.view) self.now.conditions.now self.now.all }
-        requires fits { (n * self.now.view.states + self.now.view.states ≤ length cells.old) × (c * self.now.view.states + self.now.view.states ≤ length cells.old) }
+        requires fits { (HasRow self.now.view.states n cells.old) × (HasRow self.now.view.states c cells.old) }
         ensures value { (s p : ℕ) → s < self.now.view.states → T (rows_of (K.means kind.old) self.now cells.new n s p) ↔ ((p < count (family_of self.now.view)) × (T (K.means kind.old chosen p) → AllLead (family_of self.now.view) action (rows_of (K.means kind.old) self.now cells.old c) s p)) }
         ensures others { OnlyRow self.now.view.states n cells.old cells.new }
         ensures kept { K.means kind.new ≡ K.means kind.old }

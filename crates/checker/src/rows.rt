@@ -2,9 +2,10 @@
 ghost use Rattle.std.specs.Prelude.{◌≡◌, ℕ, ◌+◌, ◌*◌, ◌<◌, ◌≤◌, Bool, true, not, ◌&&◌, length, slice_index_or};
 ghost use Rattle.checker.specs.Steps.{Preserves, Follows};
 ghost use Rattle.checker.specs.Gathered.{rows_of};
-ghost use Rattle.checker.specs.Walks.{rows as row_of, OnlyRow};
+ghost use Rattle.checker.specs.Walks.{rows as row_of, HasRow, OnlyRow};
 
 use crate::walk::Walk;
+use families::MAX_STATES;
 use product_sets::Kind;
 
 // The products that are not in the set.
@@ -19,8 +20,8 @@ pub(crate) fn without<K: Kind>(kind: &mut K, all: K::Set, set: K::Set) -> K::Set
 // Writes a row, each cell by a step from the cells of two other rows.
 pub(crate) fn write_row<K: Kind, F: Fn(&mut K, K::Set, K::Set) -> K::Set>(
     row: &mut [K::Set],
-    left: &[K::Set; 64],
-    right: &[K::Set; 64],
+    left: &[K::Set; MAX_STATES],
+    right: &[K::Set; MAX_STATES],
     step: F,
     kind: &mut K,
 )
@@ -37,12 +38,12 @@ pub(crate) fn write_row<K: Kind, F: Fn(&mut K, K::Set, K::Set) -> K::Set>(
 
 impl<K: Kind> Walk<'_, K> {
     // A copy of the row of entry n: the cells that are read lie beside those that are written.
-    pub(crate) fn row(&self, n: usize, cells: &[K::Set]) -> [K::Set; 64]
-        requires fits { n * self.now.view.states + self.now.view.states ≤ length cells.now }
+    pub(crate) fn row(&self, n: usize, cells: &[K::Set]) -> [K::Set; MAX_STATES]
+        requires fits { HasRow self.now.view.states n cells.now }
         ensures { (s : ℕ) (x : K.Set) → s < self.now.view.states → slice_index_or result s x ≡ slice_index_or cells.now (n * self.now.view.states + s) x }
     {
         let states = self.view.states;
-        let mut row = [self.all; 64];
+        let mut row = [self.all; MAX_STATES];
         row[..states].copy_from_slice(&cells[n * states..n * states + states]);
         row
     }
@@ -51,15 +52,15 @@ impl<K: Kind> Walk<'_, K> {
     pub(crate) fn write<F: Fn(&mut K, K::Set, K::Set) -> K::Set>(
         &self,
         n: usize,
-        left: &[K::Set; 64],
-        right: &[K::Set; 64],
+        left: &[K::Set; MAX_STATES],
+        right: &[K::Set; MAX_STATES],
         step: F,
         kind: &mut K,
         cells: &mut [K::Set],
     )
         requires callable { F.IsAlwaysCallable step }
         requires preserves { Preserves K.means (F.post step) }
-        requires fits { n * self.now.view.states + self.now.view.states ≤ length cells.old }
+        requires fits { HasRow self.now.view.states n cells.old }
         ensures value { (rule : ℕ → Bool → Bool → Bool) → Follows K.means (F.post step) (K.means kind.old) rule → (s p : ℕ) → s < self.now.view.states → rows_of (K.means kind.old) self.now cells.new n s p ≡ rule p (K.means kind.old (slice_index_or left.now s self.now.all) p) (K.means kind.old (slice_index_or right.now s self.now.all) p) }
         ensures others { OnlyRow self.now.view.states n cells.old cells.new }
         ensures kept { K.means kind.new ≡ K.means kind.old }
@@ -86,7 +87,7 @@ impl<K: Kind> Walk<'_, K> {
     )
         requires callable { F.IsAlwaysCallable step }
         requires preserves { Preserves K.means (F.post step) }
-        requires fits { (n * self.now.view.states + self.now.view.states ≤ length cells.old) × (c * self.now.view.states + self.now.view.states ≤ length cells.old) × (d * self.now.view.states + self.now.view.states ≤ length cells.old) }
+        requires fits { (HasRow self.now.view.states n cells.old) × (HasRow self.now.view.states c cells.old) × (HasRow self.now.view.states d cells.old) }
         ensures value { (rule : ℕ → Bool → Bool → Bool) → Follows K.means (F.post step) (K.means kind.old) rule → (s p : ℕ) → s < self.now.view.states → rows_of (K.means kind.old) self.now cells.new n s p ≡ rule p (rows_of (K.means kind.old) self.now cells.old c s p) (rows_of (K.means kind.old) self.now cells.old d s p) }
         ensures others { OnlyRow self.now.view.states n cells.old cells.new }
         ensures kept { K.means kind.new ≡ K.means kind.old }
@@ -98,18 +99,18 @@ impl<K: Kind> Walk<'_, K> {
 
     // Writes one set into each cell of entry n.
     pub(crate) fn fill(&self, n: usize, set: K::Set, kind: &mut K, cells: &mut [K::Set])
-        requires fits { n * self.now.view.states + self.now.view.states ≤ length cells.old }
+        requires fits { HasRow self.now.view.states n cells.old }
         ensures value { (s p : ℕ) → s < self.now.view.states → rows_of (K.means kind.old) self.now cells.new n s p ≡ K.means kind.old set p }
         ensures others { OnlyRow self.now.view.states n cells.old cells.new }
         ensures kept { K.means kind.new ≡ K.means kind.old }
     {
-        let row = [set; 64];
+        let row = [set; MAX_STATES];
         self.write(n, &row, &row, |_, cell, _| cell, kind, cells);
     }
 
     // Writes the row of c into that of n.
     pub(crate) fn copy(&self, n: usize, c: usize, kind: &mut K, cells: &mut [K::Set])
-        requires fits { (n * self.now.view.states + self.now.view.states ≤ length cells.old) × (c * self.now.view.states + self.now.view.states ≤ length cells.old) }
+        requires fits { (HasRow self.now.view.states n cells.old) × (HasRow self.now.view.states c cells.old) }
         ensures value { (s p : ℕ) → s < self.now.view.states → rows_of (K.means kind.old) self.now cells.new n s p ≡ rows_of (K.means kind.old) self.now cells.old c s p }
         ensures others { OnlyRow self.now.view.states n cells.old cells.new }
         ensures kept { K.means kind.new ≡ K.means kind.old }
@@ -120,7 +121,7 @@ impl<K: Kind> Walk<'_, K> {
 
     // Whether the rows of two entries mean the same.
     pub(crate) fn same_rows(&self, n: usize, c: usize, kind: &K, cells: &[K::Set]) -> bool
-        requires fits { (n * self.now.view.states + self.now.view.states ≤ length cells.now) × (c * self.now.view.states + self.now.view.states ≤ length cells.now) }
+        requires fits { (HasRow self.now.view.states n cells.now) × (HasRow self.now.view.states c cells.now) }
         ensures sound { result ≡ true → (s : ℕ) (x : K.Set) (p : ℕ) → s < self.now.view.states → row_of (K.means kind.now) self.now.view.states cells.now x n s p ≡ row_of (K.means kind.now) self.now.view.states cells.now x c s p }
         ensures full { ((s : ℕ) (x : K.Set) (p : ℕ) → s < self.now.view.states → row_of (K.means kind.now) self.now.view.states cells.now x n s p ≡ row_of (K.means kind.now) self.now.view.states cells.now x c s p) → result ≡ true }
     {
