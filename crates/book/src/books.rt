@@ -8,7 +8,7 @@ ghost use Rattle.book.specs.Contents.{contents, closed_contents};
 use crate::calls::state_count;
 use crate::contents::Contents;
 use crate::refusals::answer;
-use families::Transition;
+use families::{ACCEPTED, Transition};
 use std::alloc::{AllocError, Global};
 
 // A book that takes additions and strikes.
@@ -64,7 +64,10 @@ impl OpenBook {
         ensures book { contents self.new ≡ load_after (contents self.old) bytes.now }
         ensures law { Loaded (contents self.old) bytes.now result.0 result.1 (contents self.new) }
     {
-        self.contents.load(bytes)
+        match self.contents.load(bytes) {
+            Ok(count) => (ACCEPTED, count),
+            Err((refusal, record)) => (refusal.into(), record),
+        }
     }
 
     pub fn close(self) -> ClosedBook

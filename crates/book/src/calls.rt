@@ -5,14 +5,8 @@ ghost use Rattle.book.specs.Contents.{family};
 
 use crate::contents::Contents;
 use crate::refusals::Refusal;
-use families::{MAX_ACTION, Transition};
+use families::{MAX_ACTION, MAX_PRODUCTS, MAX_STATES, MAX_TRANSITIONS, Transition};
 use std::alloc::{AllocError, Global};
-
-const MAX_STATES: usize = 64;
-
-const MAX_PRODUCTS: usize = 200;
-
-const MAX_TRANSITIONS: usize = 256;
 
 // A count of states that a book can have.
 pub(crate) fn state_count(states: usize) -> Result<usize, Refusal>

@@ -40,7 +40,7 @@ impl ClosedBook {
         ensures filled { result.0 ≡ 0 → (d : K.Set) → Filled (closed_contents self.now) exprs.now nodes.now (row_of (K.means kind.new) (closed_contents self.now).states cells.new d) no_pairs (last nodes.now) }
         ensures products { result.0 ≡ 0 → (d : K.Set) (n : ℕ) → n < length nodes.now → OnlyProducts (closed_contents self.now) (row_of (K.means kind.new) (closed_contents self.now).states cells.new d n) }
         ensures beyond { result.0 ≡ 0 → (i : ℕ) (d : K.Set) → length nodes.now * (closed_contents self.now).states ≤ i → slice_index_or cells.new i d ≡ slice_index_or cells.old i d }
-        ensures kept { (s : K.Set) (p : ℕ) → K.means kind.new s p ≡ K.means kind.old s p }
+        ensures kept { K.means kind.new ≡ K.means kind.old }
     {
         self.view().check(exprs, nodes, kind, cells)
     }

@@ -8,4 +8,4 @@ mod contents;
 mod loads;
 pub mod own;
 mod records;
-mod refusals;
+pub mod refusals;

@@ -1,16 +1,17 @@
 // Loading from bytes.
 ghost use Rattle.std.specs.Prelude.{◌≡◌, ◌/◌, length, IfOk, IfErr};
 ghost use Rattle.book.specs.Records.{record_in};
-ghost use Rattle.book.specs.Loads.{after_records, record_result, record_after, load_answer, load_after};
+ghost use Rattle.book.specs.Loads.{after_records, record_result, record_after, load_pair, load_answer, load_after};
 ghost use Rattle.book.specs.LoadLaw.{entered, Loaded};
 ghost use Rattle.book.specs.Contents.{family};
 
 use crate::contents::Contents;
 use crate::records::{RECORD_BYTES, Record, read};
 use crate::refusals::Refusal;
-use families::ACCEPTED;
+use families::{MAX_PRODUCTS, MAX_TRANSITIONS};
 
-const MAX_BYTES: usize = 3648;
+// As many as the records of a full book have.
+const MAX_BYTES: usize = (MAX_PRODUCTS + MAX_TRANSITIONS) * RECORD_BYTES;
 
 impl Contents {
     fn enter(&mut self, bytes: [u8; RECORD_BYTES]) -> Result<usize, Refusal>
@@ -36,23 +37,23 @@ impl Contents {
         Ok(records.len())
     }
 
-    // All the records come in, or none does.
-    pub(crate) fn load(&mut self, bytes: &[u8]) -> (u8, usize)
-        ensures answer { result ≡ load_answer (family self.old) bytes.now }
+    // All the records come in, or none does. Beside a refusal stands the number of its record.
+    pub(crate) fn load(&mut self, bytes: &[u8]) -> Result<usize, (Refusal, usize)>
+        ensures answer { load_pair result ≡ load_answer (family self.old) bytes.now }
         ensures book { family self.new ≡ load_after (family self.old) bytes.now }
-        ensures law { Loaded (family self.old) bytes.now result.0 result.1 (family self.new) }
+        ensures law { Loaded (family self.old) bytes.now (load_pair result).0 (load_pair result).1 (family self.new) }
     {
         if bytes.len() % RECORD_BYTES != 0 || bytes.len() > MAX_BYTES {
-            return (Refusal::BadLength.into(), 0);
+            return Err((Refusal::BadLength, 0));
         }
         let products = self.products.len();
         let transitions = self.transitions.len();
         match self.enter_all(bytes) {
-            Ok(count) => (ACCEPTED, count),
+            Ok(count) => Ok(count),
             Err((refusal, at)) => {
                 self.products.truncate(products);
                 self.transitions.truncate(transitions);
-                (refusal.into(), at)
+                Err((refusal, at))
             }
         }
     }

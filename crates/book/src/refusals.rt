@@ -4,8 +4,8 @@ ghost use Rattle.book.specs.Answers.{number_of, answer_of};
 
 use families::ACCEPTED;
 
-#[derive(Clone, Copy, PartialEq, Eq)]
-pub(crate) enum Refusal {
+#[derive(Clone, Copy, Debug, PartialEq, Eq)]
+pub enum Refusal {
     BadStateCount,
     ProductsFull,
     ProductHeld,

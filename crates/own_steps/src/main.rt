@@ -2,10 +2,8 @@
 #![tactic(auto)]
 
 use book::books::{ClosedBook, OpenBook};
-use families::ACCEPTED;
+use families::{ACCEPTED, MAX_STATES};
 use files::bytes_or_none;
-
-const STATES: usize = 64;
 
 fn print_products(rt: &HostRuntime, book: &ClosedBook) -> anyhow::Result<()> {
     for (number, configuration) in book.products().iter().enumerate() {
@@ -19,7 +17,7 @@ fn print_products(rt: &HostRuntime, book: &ClosedBook) -> anyhow::Result<()> {
 
 fn run(rt: &HostRuntime) -> anyhow::Result<()> {
     let bytes = bytes_or_none(rt, "family.bin")?;
-    let (_, mut book) = OpenBook::open(rt.alloc(), STATES)?;
+    let (_, mut book) = OpenBook::open(rt.alloc(), MAX_STATES)?;
     let (number, value) = book.load(&bytes);
     if number != ACCEPTED {
         println!(rt; "book {number} {value}")?;

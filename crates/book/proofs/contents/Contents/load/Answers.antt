@@ -3,6 +3,7 @@ use Rattle.std.proofs.lemmas.Bool.Decides.{nat_tests}
 use Rattle.std.specs.List.{AllPairs}
 use Rattle.families.specs.Families.{Family, all_within}
 use Rattle.book.specs.Loads.{bad_length, after_records}
+use Rattle.book.specs.Answers.{number_of}
 use Rattle.book.specs.Contents.{family}
 use Rattle.book.proofs.Loaded.{restored}
 use Rattle.book.proofs.LoadLaw.{ill_sized_load, ended_load, same_family}
@@ -11,7 +12,7 @@ use Rattle.book.proofs.contents.Contents.load.Goals as goal
 pub returns-then-bytes-ne0 : goal.returns-then-bytes-ne0
 returns-then-bytes-ne0 c =
     let z : bad_length c.args.bytes.now ≡ true = grind (arith, nat_tests) in
-    let l = ill_sized_load (family c.args.self.now) c.args.bytes.now _ z c.into.ensures in
+    let l = ill_sized_load (family c.args.self.now) c.args.bytes.now _ z refl in
     record { answer = l.0; book = l.1; law = l.2 }
 
 pub returns-in-Ok : goal.returns-in-Ok
@@ -44,6 +45,6 @@ returns-in-Err c =
     let same = same_family _ (family c.args.self.now) (ap (λ (f : Family). f.states) g)
     (restored _ _ c.truncate.ensures.items np (ap (λ (f : Family). f.products) g))
     (restored _ _ c.truncate-in-Err.ensures.items nt (ap (λ (f : Family). f.transitions) g)) in
-    let l = ended_load (family c.args.self.now) c.args.bytes.now (Err (c.in-Err.refusal, c.in-Err.at)) (c.into-in-Err.result, c.in-Err.at) _ z
-    c.in-Err.ensures.bad.0 (ap (λ n. (n, c.in-Err.at)) c.into-in-Err.ensures) same in
+    let l = ended_load (family c.args.self.now) c.args.bytes.now (Err (c.in-Err.refusal, c.in-Err.at)) (number_of c.in-Err.refusal, c.in-Err.at) _ z
+    c.in-Err.ensures.bad.0 refl same in
     record { answer = l.0; book = l.1; law = l.2 }
