@@ -28,7 +28,7 @@ const CUT: u8 = 3;
 
 const X: u8 = 23;
 
-// The six transitions of the family, without excluded features.
+// A transition without excluded features, as all six of the family are.
 fn transition(source: u8, action: u8, target: u8, required: u16) -> Transition {
     Transition {
         source,

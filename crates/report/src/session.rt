@@ -8,7 +8,7 @@ ghost use Rattle.report.specs.Verdicts.{outcome_of};
 use crate::digits::Digits;
 use crate::verdict::Refused;
 use book::books::{ClosedBook, OpenBook};
-use families::ACCEPTED;
+use families::{ACCEPTED, MAX_STATES};
 use formulas::judge::MAX_ENTRIES;
 use formulas::{Expr, Node};
 use product_sets::{Kind, Mask};
@@ -17,10 +17,8 @@ use std::alloc::{AllocError, Global};
 use std::fmt;
 use words::keeps_form;
 
-const STATES: usize = 64;
-
 // A cell for each entry and state.
-const CELLS: usize = MAX_ENTRIES * STATES;
+const CELLS: usize = MAX_ENTRIES * MAX_STATES;
 
 #[derive(Drop)]
 pub struct Session {
@@ -58,7 +56,7 @@ impl Session {
     ) -> Result<Result<Session, Unopened>, AllocError>
         ensures { IfOk result (Opens family.now actions.items features.items) }
     {
-        let (_, mut book) = OpenBook::open(heap, STATES)?;
+        let (_, mut book) = OpenBook::open(heap, MAX_STATES)?;
         let (number, value) = book.load(family);
         if number != ACCEPTED {
             return Ok(Err(Unopened::Book(number, value)));

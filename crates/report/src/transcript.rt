@@ -5,10 +5,11 @@ ghost use Rattle.report.specs.Transcripts.{kept, next, Told, Tells, Transcribed}
 
 use crate::session::Session;
 use crate::verdict::line;
+use reader::LONGEST_TEXT;
 use std::alloc::{AllocError, Global};
 
 // One byte more than a text may have, so that what is kept of a longer line is refused too.
-const KEPT: usize = 1025;
+const KEPT: usize = LONGEST_TEXT + 1;
 
 // The line that is being read, as far as it is kept, and its number. Room for it is reserved, so no memory is
 // wanted while it grows. What a call leaves as it was, as the session, each call says.
