@@ -26,7 +26,8 @@ impl ClosedBook {
 
     // Checks a formula for every product at once. Accepted, the cell of entry n and state s, n × states + s, means the
     // products for which the entry holds there, a variable standing for the final set of its fixpoint, and the
-    // value is how many products have the last entry in state 0. It is what the view promises, said of the book.
+    // value is how many products have the last entry in state 0. It is what the view promises, said of the
+    // book, so the parameters are the view's.
     pub fn check<K: Kind>(
         &self,
         exprs: &[Expr],

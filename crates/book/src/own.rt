@@ -30,6 +30,7 @@ impl From<Transition> for OwnTransition {
     }
 }
 
+// A name for the search, which has a clause of its own.
 fn owned(transitions: &[Transition], configuration: u16, own: OwnTransition) -> bool
     ensures { IsTrue result ↔ Owns transitions.now configuration own.source own.action own.target }
 {

@@ -35,7 +35,7 @@ impl From<Refusal> for u8 {
     }
 }
 
-// What a call answers: its number and its value.
+// What a call answers: its number and its value, since calls on a book and checks answer such a pair.
 pub(crate) fn answer(outcome: Result<usize, Refusal>) -> (u8, usize)
     ensures { result ≡ answer_of outcome }
 {

@@ -106,7 +106,7 @@ impl FamilyView<'_> {
 
     // Checks a formula. Accepted, the cell of entry n and state s, n × states + s, holds the products for which the
     // entry holds there, a variable standing for the final set of its fixpoint, and the value is how many products
-    // have the last entry in state 0.
+    // have the last entry in state 0. A closed book hands on to it, so both have the same parameters and promises.
     pub fn check<K: Kind>(
         &self,
         exprs: &[Expr],

@@ -57,7 +57,8 @@ impl<K: Kind> Walk<'_, K> {
         }
     }
 
-    // Fills the rows of a fixpoint n over the part c: it starts anew, and goes on until a round changes nothing.
+    // Fills the rows of a fixpoint n over the part c: it starts anew, and goes on until a round changes nothing. It says what
+    // the walk says, as they call one another.
     #[cycle(iterate_walk)]
     fn iterate(&self, start: K::Set, n: usize, c: usize, kind: &mut K, cells: &mut [K::Set])
         requires starts { Starts (K.means kind.old self.now.all) (K.means kind.old start) c (entry self.now.tables.nodes.now n) }
@@ -69,6 +70,7 @@ impl<K: Kind> Walk<'_, K> {
         ensures walked { Walked (family_of self.now.view) self.now.tables.exprs.now self.now.tables.nodes.now (rows_of (K.means kind.old) self.now cells.old) (rows_of (K.means kind.old) self.now cells.new) n }
     {
         self.fill(n, start, kind, cells);
+        // A loop, since how many rounds it takes is not known before.
         'rounds: loop {
             self.walk(c, kind, cells);
             if self.same_rows(n, c, kind, cells) {

@@ -29,7 +29,7 @@ fn replay<K: Kind>(
 }
 
 // Runs a history, and then checks a formula on the closed book, which is given back beside the answer. Without
-// memory for a book nothing is run.
+// memory for a book nothing is run. Kind and cells are lent one by one, since the caller reads them apart afterwards.
 pub fn run<K: Kind>(
     heap: Global,
     history: History<'_, '_>,

@@ -67,6 +67,7 @@ fn past_spaces(text: &[u8], from: usize) -> usize
     from + rest(text, from).iter().take_while(|b| **b == b' ').count()
 }
 
+// Bytes are taken as chars here and below, so that chars stand in the patterns.
 fn is_in_name(c: char) -> bool
     ensures { result ≡ in_name c }
 {

@@ -88,6 +88,7 @@ fn print_row<K: Kind>(
     println!(rt; "  {value} products keep the rule in state 0")?;
     for (state, set) in cells.iter().skip(CELLS - STATES).enumerate() {
         print!(rt; "  state {state}: ")?;
+        // Products are numbers, and index nothing here.
         for product in 0..PRODUCTS {
             print!(rt; "{}", u8::from(kind.has(*set, product)))?;
         }

@@ -13,6 +13,7 @@ pub enum Shape {
     And(usize, usize),
 }
 
+// Written for each table, as `Node` and `Expr` have no constructor in common.
 impl From<Shape> for Node {
     ghost from_gives = { λ s n. n ≡ as_node s };
 

@@ -32,7 +32,7 @@ impl<'a> Names<'a> {
     pub fn number(self, name: &[u8]) -> Option<u8>
         ensures { (ws : List (List ℕ)) → IsCutInto self.entry.list.now ws → result ≡ number ws name.now }
     {
-        // Nothing is lost: a list has at most 255 names.
+        // Nothing is lost, as a list has at most 255 names; `try_from` would answer for a case that cannot come.
         find(self.list, name).map(|k| k as u8)
     }
 }
