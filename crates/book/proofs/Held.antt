@@ -1,6 +1,7 @@
 -- Lemmas on the lists of a book.
-use Rattle.std.proofs.Common.{◌≡◌, ◌≢◌, ℕ, suc, ◌+◌, ◌<◌, ◌≤◌, Bool, true, false, cond, not, ◌||◌, eqb, List, [], ◌∷◌, ◌++◌, length, Some, None, unwrap_or, nat_lt, one-add, refl, sym, subst, ap, ◌∙◌, arith}
+use Rattle.std.proofs.Common.{◌≡◌, ◌≢◌, ℕ, suc, ◌+◌, ◌<◌, ◌≤◌, Bool, true, false, cond, not, ◌||◌, eqb, List, [], ◌∷◌, ◌++◌, length, take, drop, Some, None, unwrap_or, nat_lt, one-add, refl, sym, subst, ap, ◌∙◌, arith}
 use Rattle.std.specs.List.{AllPairs, AllWithin, remove, position, position_or_len}
+use Rattle.std.proofs.lemmas.List.{get_or-take, length-take, take-append-drop}
 use Rattle.std.proofs.lemmas.List.Folds.{list_all-append}
 use Rattle.std.proofs.lemmas.List.Quantifiers.{all_pairs_push}
 use Rattle.std.proofs.lemmas.Bool.{ltb-true, ltb-false, or_parts, and_parts, and_from}
@@ -82,3 +83,14 @@ within_without s x (z ∷ xs) p =
     let ps = and_parts (transition_within s z) (all_within s xs) p in
     elim (same_transition z x) as (λ b. all_within s (cond b xs (z ∷ without same_transition x xs)) ≡ true)
     [ true ↦ ps.1 | false ↦ and_from _ _ ps.0 (within_without s x xs ps.1) ]
+
+-- The first n of a list have what all of it has.
+pub all_pairs_take : {X : Type 0} (R : X → X → Type 0) (xs : List X) (n : ℕ) → AllPairs R xs → AllPairs R (take n xs)
+all_pairs_take R xs n h i j d i< j< =
+    let l = length-take n xs in
+    rw (get_or-take n xs i d (omega arith), get_or-take n xs j d (omega arith)) (h i j d i< (omega arith))
+
+pub within_take : (s : ℕ) (xs : List Transition) (n : ℕ) → all_within s xs ≡ true → all_within s (take n xs) ≡ true
+within_take s xs n h =
+    (and_parts (all_within s (take n xs)) (all_within s (drop n xs))
+    (sym (list_all-append (transition_within s) (take n xs) (drop n xs)) ∙ ap (all_within s) (take-append-drop n xs) ∙ h)).0

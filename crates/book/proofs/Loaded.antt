@@ -1,5 +1,5 @@
 -- Lemmas on loading.
-use Rattle.std.proofs.Common.{◌≡◌, ℕ, zero, suc, ◌+◌, ◌*◌, ◌/◌, ◌<◌, ◌≤◌, List, ◌++◌, [], ◌∷◌, length, get_or, take, drop, Option, Some, None, Result, Ok, Err, is_ok, if◌then◌else◌, sym, refl, ap, ◌∙◌, inl, inr, add-one, arith}
+use Rattle.std.proofs.Common.{◌≡◌, ◌≢◌, ℕ, zero, suc, ◌+◌, ◌*◌, ◌/◌, ◌<◌, ◌≤◌, List, ◌++◌, [], ◌∷◌, length, get_or, take, drop, Option, Some, None, Result, Ok, Err, is_ok, if◌then◌else◌, sym, refl, ap, ◌∙◌, inl, inr, add-one, arith}
 use Rattle.std.specs.Simd.{first_chunks}
 use Rattle.std.proofs.Math.Seq.{take-append_seam}
 use Rattle.std.proofs.lemmas.List.{drop-drop}
@@ -9,9 +9,22 @@ use Rattle.book.specs.declared.refusals.Refusal.{Refusal}
 use Rattle.book.specs.declared.records.Record.{Record}
 use Rattle.book.specs.declared.records.Record.TheVariants.{AddProduct, AddTransition}
 use Rattle.book.specs.Records.{record_in, record_from}
+use Rattle.book.specs.declared.refusals.Refusal.TheVariants.{BadStateCount, ProductsFull, ProductHeld, OutOfRange, TransitionHeld, TransitionsFull, NotHeld, BadLength, BadRecord}
+use Rattle.book.specs.Answers.{number_of, answer_of}
 use Rattle.book.specs.Loads.{enter, entered_or, after_records, record_result, record_after}
-use Rattle.book.specs.LoadLaw.{entered}
-use Rattle.book.proofs.LoadLaw.{entered_by}
+use Rattle.book.specs.LoadLaw.{products_of, transitions_of, entered, beginning}
+use Rattle.book.proofs.LoadLaw.{entered_by, same_family}
+
+number_of-not_zero : (r : Refusal) → number_of r ≢ 0
+number_of-not_zero BadStateCount e = absurd (cc)
+number_of-not_zero ProductsFull e = absurd (cc)
+number_of-not_zero ProductHeld e = absurd (cc)
+number_of-not_zero OutOfRange e = absurd (cc)
+number_of-not_zero TransitionHeld e = absurd (cc)
+number_of-not_zero TransitionsFull e = absurd (cc)
+number_of-not_zero NotHeld e = absurd (cc)
+number_of-not_zero BadLength e = absurd (cc)
+number_of-not_zero BadRecord e = absurd (cc)
 
 chunk_at : (bs : List ℕ) (k i : ℕ) (d : List ℕ) → i < k → get_or (first_chunks 8 k bs) i d ≡ take 8 (drop (8 * i) bs)
 chunk_at bs zero i d h = absurd (omega arith)
@@ -24,9 +37,14 @@ pub record_at : (bs : List ℕ) (rs : List (List ℕ)) (i : ℕ) (d : List ℕ) 
     → record_in (get_or rs i d) ≡ record_from bs i
 record_at bs rs i d e h = ap (λ (l : List (List ℕ)). record_in (get_or l i d)) e ∙ ap record_in (chunk_at bs (length bs / 8) i d h)
 
--- what was cut back to its length
-pub restored : {X : Type 0} {xs zs : List X} {n : ℕ} (ys more : List X) → zs ≡ take n ys → n ≡ length xs → ys ≡ xs ++ more → zs ≡ xs
-restored {xs = xs} ys more e l h = e ∙ ap (λ k. take k ys) l ∙ ap (take (length xs)) h ∙ take-append_seam xs more
+-- The number of an answer tells whether the call was accepted.
+accepted : (x : Result ℕ Refusal) → (answer_of x).0 ≡ 0 → (v : ℕ) × (x ≡ Ok v)
+accepted (Ok v) z = (v, refl)
+accepted (Err r) z = absurd (number_of-not_zero r z)
+
+refused : (x : Result ℕ Refusal) → (answer_of x).0 ≢ 0 → (r : Refusal) × (x ≡ Err r)
+refused (Ok v) z = absurd (z refl)
+refused (Err r) z = (r, refl)
 
 -- a refused record changes nothing
 record_refused : (f : Family) (e : Option Record) (r : Refusal) → record_result f e ≡ Err r → record_after f e ≡ f
@@ -46,21 +64,32 @@ module _ (f : Family) (bs : List ℕ) where
         | inr b ↦ let z : i ≡ suc n = omega arith in ap (after_records f bs) (sym z) ∙ p
       ]
 
-  module _ (m g : Family) (i : ℕ) (x : Result ℕ Refusal) (e : Option Record) (before : after_records f bs i ≡ Ok m) (read : e ≡ record_from bs i)
-      (outcome : x ≡ record_result m e) (after : g ≡ record_after m e) where
-    one_more : (y : Result ℕ Refusal) → x ≡ y → after_records f bs (i + 1) ≡ entered_or (record_after m e) i y
+  -- What is left of the family with the first n records, once it is cut back to its old lengths.
+  pub beginning_entered : (n p t : ℕ) (g : Family) → g ≡ entered f bs n → p ≡ length f.products → t ≡ length f.transitions
+      → beginning g p t ≡ f
+  beginning_entered n p t g e pl tl =
+      ap (λ (h : Family). beginning h p t) e ∙ same_family _ f refl
+      (ap (λ k. take k (f.products ++ products_of bs n)) pl ∙ take-append_seam f.products (products_of bs n))
+      (ap (λ k. take k (f.transitions ++ transitions_of bs n)) tl ∙ take-append_seam f.transitions (transitions_of bs n))
+
+  module _ (m g : Family) (i number : ℕ) (e : Option Record) (before : after_records f bs i ≡ Ok m) (read : e ≡ record_from bs i)
+      (answer : number ≡ (answer_of (record_result m e)).0) (after : g ≡ record_after m e) where
+    one_more : (y : Result ℕ Refusal) → record_result m e ≡ y → after_records f bs (i + 1) ≡ entered_or (record_after m e) i y
     one_more y h =
         ap (after_records f bs) (add-one i) ∙ ap (enter i (record_from bs i)) before ∙ ap (λ r. enter i r (Ok m)) (sym read)
-        ∙ ap (entered_or (record_after m e) i) (sym outcome ∙ h)
+        ∙ ap (entered_or (record_after m e) i) h
 
     -- a record that came in
-    pub goes_on : (v : ℕ) → x ≡ Ok v → after_records f bs (i + 1) ≡ Ok g
-    goes_on v ok = one_more (Ok v) ok ∙ ap Ok (sym after)
+    pub goes_on : number ≡ 0 → after_records f bs (i + 1) ≡ Ok g
+    goes_on z = let ok = accepted _ (sym answer ∙ z) in one_more (Ok ok.0) ok.1 ∙ ap Ok (sym after)
 
     -- a record that was refused
-    pub stops : (r : Refusal) → x ≡ Err r → i < length bs / 8
-        → (after_records f bs (length bs / 8) ≡ Err (r, i)) × (g ≡ entered f bs i)
-    stops r err i< = (
-      stays (r, i) (i + 1) (length bs / 8) (omega arith) (one_more (Err r) err),
-      after ∙ record_refused m e r (sym outcome ∙ err) ∙ entered_by f bs i m before,
-    )
+    pub stops : number ≢ 0 → i < length bs / 8
+        → (r : Refusal) × (after_records f bs (length bs / 8) ≡ Err (r, i)) × (number ≡ number_of r) × (g ≡ entered f bs i)
+    stops z i< =
+        let err = refused _ (λ y. z (answer ∙ y)) in (
+          err.0,
+          stays (err.0, i) (i + 1) (length bs / 8) (omega arith) (one_more (Err err.0) err.1),
+          answer ∙ ap (λ x. (answer_of x).0) err.1,
+          after ∙ record_refused m e err.0 err.1 ∙ entered_by f bs i m before,
+        )

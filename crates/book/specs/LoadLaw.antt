@@ -1,5 +1,5 @@
 -- What a load does, without going through it: all records come in, at the ends of the lists and in order, or none does.
-use Rattle.std.specs.Prelude.{◌≡◌, ℕ, zero, suc, ◌/◌, ◌%◌, ◌<◌, ◌≤◌, ◌⊎◌, List, [], ◌∷◌, ◌++◌, length, Option, Some, None, Err, IsOk}
+use Rattle.std.specs.Prelude.{◌≡◌, ℕ, zero, suc, ◌/◌, ◌%◌, ◌<◌, ◌≤◌, ◌⊎◌, List, [], ◌∷◌, ◌++◌, length, take, Option, Some, None, Err, IsOk}
 use Rattle.families.specs.declared.Transition.{Transition}
 use Rattle.families.specs.Families.{Family}
 use Rattle.book.specs.declared.records.Record.{Record}
@@ -33,6 +33,11 @@ transitions_of bs (suc n) = transitions_of bs n ++ transition_of (record_from bs
 -- A family with the first n records at the ends of its lists.
 abbrev pub entered : Family → List ℕ → ℕ → Family
 entered f bs n = record { states = f.states; products = f.products ++ products_of bs n; transitions = f.transitions ++ transitions_of bs n }
+
+-- The first products and transitions of a family.
+abbrev pub beginning : Family → ℕ → ℕ → Family
+beginning f products transitions =
+    record { states = f.states; products = take products f.products; transitions = take transitions f.transitions }
 
 -- None of the first n records is refused after those before it.
 abbrev pub Acceptable : Family → List ℕ → ℕ → Type 0

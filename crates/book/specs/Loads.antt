@@ -45,11 +45,6 @@ abbrev pub told : ℕ → Result Family (Refusal × ℕ) → ℕ × ℕ
 told n (Ok f) = (0, n)
 told n (Err e) = (number_of e.0, e.1)
 
--- The same of a load by itself.
-abbrev pub load_pair : Result ℕ (Refusal × ℕ) → ℕ × ℕ
-load_pair (Ok n) = (0, n)
-load_pair (Err e) = (number_of e.0, e.1)
-
 abbrev pub load_answer : Family → List ℕ → ℕ × ℕ
 load_answer f bs =
     if bad_length bs then answer_of (Err BadLength) else told (length bs / 8) (after_records f bs (length bs / 8))

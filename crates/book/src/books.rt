@@ -1,14 +1,12 @@
 // The two types of book.
 ghost use Rattle.std.specs.Prelude.{◌≡◌, IfOk};
 ghost use Rattle.book.specs.Rules.{opened, open_answer, product_answer, product_after, transition_answer, transition_after, strike_answer, strike_after};
-ghost use Rattle.book.specs.Loads.{load_answer, load_after};
-ghost use Rattle.book.specs.LoadLaw.{Loaded};
 ghost use Rattle.book.specs.Contents.{contents, closed_contents};
 
 use crate::calls::state_count;
 use crate::contents::Contents;
 use crate::refusals::answer;
-use families::{ACCEPTED, Transition};
+use families::Transition;
 use std::alloc::{AllocError, Global};
 
 // A book that takes additions and strikes.
@@ -55,19 +53,6 @@ impl OpenBook {
         ensures book { contents self.new ≡ strike_after (contents self.old) transition }
     {
         answer(self.contents.strike(transition))
-    }
-
-    // Enters every record in order; the first bad one keeps the whole load out. Accepted, the value is the count
-    // of records; refused at a record, it is that record's number.
-    pub fn load(&mut self, bytes: &[u8]) -> (u8, usize)
-        ensures answer { result ≡ load_answer (contents self.old) bytes.now }
-        ensures book { contents self.new ≡ load_after (contents self.old) bytes.now }
-        ensures law { Loaded (contents self.old) bytes.now result.0 result.1 (contents self.new) }
-    {
-        match self.contents.load(bytes) {
-            Ok(count) => (ACCEPTED, count),
-            Err((refusal, record)) => (refusal.into(), record),
-        }
     }
 
     pub fn close(self) -> ClosedBook
