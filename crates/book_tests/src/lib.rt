@@ -113,7 +113,59 @@ mod tests {
         push_products(&mut bytes, 1)?;
         assert_eq!(rt; book.load(&bytes), (8, 0));
         assert_eq!(rt; book.load(&[80, 1, 0, 0, 0, 0, 0]), (8, 0));
-        assert_eq!(rt; book.close().products().len(), 200);
+        // The configuration of product 199 has five features, so it meets 32 of the conditions; product 0 meets one.
+        let book = book.close();
+        assert_eq!(rt; book.products().len(), 200);
+        assert_eq!(rt; book.own_transitions(rt.alloc(), 0)?.len(), 1);
+        assert_eq!(rt; book.own_transitions(rt.alloc(), 199)?.len(), 32);
+        Ok(())
+    }
+
+    // As many own transitions as a book can give, each with another source or action.
+    #[test]
+    fn longest_list(rt: HostRuntime) -> Result<(), Fail> {
+        let (_, mut book) = OpenBook::open(rt.alloc(), 64)?;
+        let _ = book.add_product(0);
+        for i in 0..=255u8 {
+            let _ = book.add_transition(transition(i / 4, i % 64, i % 4, 0, 0));
+        }
+        let list = book.close().own_transitions(rt.alloc(), 0)?;
+        assert_eq!(rt; list.len(), 256);
+        assert!(rt; list.as_slice()[255] == own(63, 63, 3));
+        Ok(())
+    }
+
+    // `tools/want_of_memory` runs this with each allocation failing in turn: a call answers the error or what it answers
+    // with memory enough, and the calls after it go on as if it had not been made.
+    #[test]
+    fn want_of_memory(rt: HostRuntime) -> Result<(), Fail> {
+        let mut failed = false;
+        let (given, mut book) = match OpenBook::open(rt.alloc(), 4) {
+            Ok(opened) => opened,
+            Err(AllocError) => {
+                failed = true;
+                OpenBook::open(rt.alloc(), 4)?
+            }
+        };
+        assert_eq!(rt; given, (0, 0));
+        assert_eq!(rt; book.load(&[80, 1, 0, 0, 0, 0, 0, 0]), (0, 1));
+        for action in 0..5u8 {
+            let (number, _) = book.add_transition(transition(0, action, 1, 1, 0));
+            assert_eq!(rt; number, 0);
+        }
+        let book = book.close();
+        for _ in 0..2 {
+            match book.own_transitions(rt.alloc(), 0) {
+                Ok(list) => assert_eq!(rt; list.len(), 5),
+                Err(AllocError) => {
+                    // One allocation fails at most.
+                    assert!(rt; !failed);
+                    failed = true;
+                }
+            }
+            assert!(rt; book.owns(0, own(0, 4, 1)));
+            assert_eq!(rt; book.products().len(), 1);
+        }
         Ok(())
     }
 
