@@ -19,7 +19,7 @@ use Rattle.semantics.specs.Entries.{Parts, Filled}
 use Rattle.semantics.proofs.Rows.{filled_below, filled_beside, fill_as}
 use Rattle.semantics.proofs.RowRules.{means_not, means_or, means_and, means_diamond, means_box}
 use Rattle.checker.specs.Gathered.{family_of, Everyone, Collects}
-use Rattle.checker.specs.Walks.{entry, rows, OnlyRow, Framed, SomeLeads, AllLead, OnlyProducts, FixpointsAbove, Walked}
+use Rattle.checker.specs.Walks.{entry, rows_or as rows, OnlyRow, Framed, SomeLeads, AllLead, OnlyProducts, FixpointsAbove, Walked}
 use Rattle.product_sets.specs.declared.kind.Kind.{Ghosts}
 use Rattle.checker.specs.declared.walk.Walk.{Walk}
 use Rattle.checker.proofs.Tables.{sound_tables}

@@ -10,7 +10,7 @@ use Rattle.semantics.specs.Meaning.{Pairs}
 use Rattle.product_sets.specs.declared.kind.Kind.{Ghosts}
 use Rattle.checker.specs.declared.view.FamilyView.{FamilyView}
 use Rattle.checker.specs.declared.walk.Walk.{Walk}
-use Rattle.checker.specs.Walks.{entry, rows}
+use Rattle.checker.specs.Walks.{entry, rows_or as rows}
 
 -- The family that is lent.
 abbrev pub family_of : FamilyView → Family

@@ -2,3 +2,4 @@ pub mod Steps
 pub mod Gathered
 pub mod Walks
 pub mod Checks
+pub mod CheckLaw

@@ -3,7 +3,7 @@ ghost use Rattle.std.specs.Prelude.{◌≡◌, ℕ, ◌+◌, ◌*◌, ◌<◌, �
 ghost use Rattle.formulas.specs.Tables.{last};
 ghost use Rattle.semantics.specs.Entries.{Filled, no_pairs};
 ghost use Rattle.checker.specs.Gathered.{family_of};
-ghost use Rattle.checker.specs.Walks.{rows as row_of, OnlyProducts};
+ghost use Rattle.checker.specs.Walks.{rows_or as row_of, OnlyProducts};
 ghost use Rattle.checker.specs.declared.check.Refusal.TheVariants as re;
 ghost use Rattle.checker.specs.Checks.{how_many, refusal_pair, Answered};
 

@@ -2,7 +2,7 @@
 ghost use Rattle.std.specs.Prelude.{◌≡◌, ℕ, ◌+◌, ◌*◌, ◌<◌, ◌≤◌, Bool, true, not, ◌&&◌, length, slice_index_or};
 ghost use Rattle.checker.specs.Steps.{Preserves, Follows};
 ghost use Rattle.checker.specs.Gathered.{rows_of};
-ghost use Rattle.checker.specs.Walks.{rows as row_of, HasRow, OnlyRow};
+ghost use Rattle.checker.specs.Walks.{rows_or as row_of, HasRow, OnlyRow};
 
 use crate::walk::Walk;
 use families::MAX_STATES;

@@ -10,7 +10,7 @@ use Rattle.semantics.specs.Meaning.{projection, system_of}
 use Rattle.semantics.specs.Entries.{Filled, EntryHolds, no_pairs}
 use Rattle.semantics.specs.Laws.{Like}
 use Rattle.semantics.proofs.Entries.{entries_hold, extensional_entries}
-use Rattle.checker.specs.Walks.{rows, OnlyProducts}
+use Rattle.checker.specs.Walks.{rows_or as rows, OnlyProducts}
 use Rattle.checker.specs.Checks.{Answered, refused_tables, too_many_products, too_few_cells, accepted}
 use Rattle.histories.specs.Columns.{SameColumn}
 use Rattle.histories.specs.Laws.{HistoryLaw, Comparable, Compares, Comparison}

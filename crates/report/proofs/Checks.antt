@@ -8,7 +8,7 @@ use Rattle.formulas.specs.declared.Expr.{Expr}
 use Rattle.formulas.specs.declared.Node.{Node}
 use Rattle.semantics.specs.Entries.{Filled, no_pairs}
 use Rattle.semantics.proofs.Entries.{closed_entries}
-use Rattle.checker.specs.Walks.{rows}
+use Rattle.checker.specs.Walks.{rows_or as rows}
 use Rattle.checker.specs.Checks.{Answered, refused_tables, too_many_products, too_few_cells, accepted}
 use Rattle.report.specs.Answers.{digits, refused, Checked, unsound, crowded, answered}
 

@@ -2,7 +2,7 @@ use Rattle.std.proofs.Common.{subst}
 use Rattle.families.specs.Families.{Family}
 use Rattle.formulas.specs.Tables.{last}
 use Rattle.semantics.specs.Entries.{Filled, no_pairs}
-use Rattle.checker.specs.Walks.{rows}
+use Rattle.checker.specs.Walks.{rows_or as rows}
 use Rattle.book.proofs.books.ClosedBook.check.Goals as goal
 
 -- of the book's contents in place of the view's

@@ -7,7 +7,7 @@ use Rattle.formulas.specs.declared.Expr.{Expr}
 use Rattle.formulas.specs.declared.Node.{Node}
 use Rattle.semantics.specs.Entries.{Filled, no_pairs}
 use Rattle.checker.specs.Gathered.{family_of}
-use Rattle.checker.specs.Walks.{rows}
+use Rattle.checker.specs.Walks.{rows_or as rows}
 use Rattle.checker.specs.Checks.{how_many, Answered, accepted}
 use Rattle.checker.proofs.Places.{row_fits}
 use Rattle.checker.proofs.Tables.{sound_tables}

@@ -5,7 +5,7 @@ use Rattle.formulas.proofs.Trees.{under_le}
 use Rattle.semantics.specs.Entries.{no_pairs}
 use Rattle.semantics.proofs.Rows.{filled_same, same_refl}
 use Rattle.checker.specs.Gathered.{family_of, Everyone, Meeting, Satisfying}
-use Rattle.checker.specs.Walks.{rows}
+use Rattle.checker.specs.Walks.{rows_or as rows}
 use Rattle.checker.proofs.Places.{row_fits}
 use Rattle.checker.proofs.Tables.{sound_tables}
 use Rattle.checker.proofs.Collecting.{first_places}

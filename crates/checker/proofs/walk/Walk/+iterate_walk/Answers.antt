@@ -13,7 +13,7 @@ use Rattle.semantics.specs.Meaning.{Pairs, Same}
 use Rattle.semantics.specs.Entries.{Filled}
 use Rattle.semantics.proofs.Rows.{means_same, same_refl}
 use Rattle.checker.specs.Gathered.{family_of, Meeting, Collects, Gathers}
-use Rattle.checker.specs.Walks.{entry, rows, SomeLeads, AllLead, OnlyProducts, FixpointsAbove, Walked, Starts}
+use Rattle.checker.specs.Walks.{entry, rows_or as rows, SomeLeads, AllLead, OnlyProducts, FixpointsAbove, Walked, Starts}
 use Rattle.checker.proofs.Places.{row_fits, offset_fits}
 use Rattle.checker.proofs.Tables.{sound_tables}
 use Rattle.checker.proofs.Stages.{asked, part_names, part_lower, part_begun, same_by, framed_row, framed_then, framed_part, to_part, only_after, stands_after, fixpoint_above, walked, walked_false, walked_true, walked_variable, walked_not, walked_or, walked_and, walked_diamond, walked_box}
