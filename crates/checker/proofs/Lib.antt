@@ -4,3 +4,4 @@ pub mod Collecting
 pub mod Leading
 pub mod Stages
 pub mod Rounding
+pub mod Answering

@@ -25,3 +25,13 @@ pub record CheckLaw {K S : Type 0} (means : K → S → ℕ → Bool) (places : 
   pub beyond : number ≡ 0 → (i : ℕ) → length ns * F.states ≤ i → slice_get cells' i ≡ slice_get cells i
   -- refused, all is as it was
   pub refused : number ≢ 0 → (kind' ≡ kind) × (cells' ≡ cells)
+
+-- The answer of a check is one: two checks of the same tables over the same family, with kinds and cells of their own, answer the same value if
+-- both accept, and the same number and value if the kinds have equally many places and there are equally many cells.
+abbrev pub OneChecked : {K S L X : Type 0} → (K → S → ℕ → Bool) → ℕ → (L → X → ℕ → Bool) → ℕ → Type 0
+OneChecked {K} {S} {L} {X} means places means' places' =
+    (F : Family) (es : List Expr) (ns : List Node) → 0 < F.states
+    → (k k' : K) (xs xs' : List S) (l l' : L) (ys ys' : List X) (number value number' value' : ℕ)
+    → CheckLaw means places F es ns k xs k' xs' number value → CheckLaw means' places' F es ns l ys l' ys' number' value'
+    → (number ≡ 0 → number' ≡ 0 → value ≡ value')
+    × (places ≡ places' → length xs ≡ length ys → (number ≡ number') × (value ≡ value'))

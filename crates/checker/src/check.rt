@@ -1,11 +1,12 @@
 // The check of a formula against a family.
-ghost use Rattle.std.specs.Prelude.{◌≡◌, ℕ, ◌+◌, ◌*◌, ◌<◌, ◌≤◌, Bool, length, ◌≢◌, IsOk, IfOk, IfErr, slice_index_or};
+ghost use Rattle.std.specs.Prelude.{◌≡◌, ℕ, ◌+◌, ◌*◌, ◌<◌, ◌≤◌, Bool, length, IsOk, IfOk, IfErr, slice_get};
 ghost use Rattle.formulas.specs.Tables.{last};
 ghost use Rattle.semantics.specs.Entries.{Filled, no_pairs};
 ghost use Rattle.checker.specs.Gathered.{family_of};
-ghost use Rattle.checker.specs.Walks.{rows_or as row_of, OnlyProducts};
+ghost use Rattle.checker.specs.Walks.{rows as row_of, OnlyProducts};
 ghost use Rattle.checker.specs.declared.check.Refusal.TheVariants as re;
 ghost use Rattle.checker.specs.Checks.{how_many, refusal_pair, Answered};
+ghost use Rattle.checker.specs.CheckLaw.{CheckLaw};
 
 use crate::gather::fixpoints;
 use crate::view::FamilyView;
@@ -85,9 +86,9 @@ impl FamilyView<'_> {
     fn fill<K: Kind>(&self, tables: &SoundTables<'_>, kind: &mut K, cells: &mut [K::Set])
         requires fits { (length self.now.products.now ≤ K.places) × (length tables.now.nodes.now * self.now.states ≤ length cells.old) }
         ensures kept { K.means kind.new ≡ K.means kind.old }
-        ensures beyond { (i : ℕ) (d : K.Set) → length tables.now.nodes.now * self.now.states ≤ i → slice_index_or cells.new i d ≡ slice_index_or cells.old i d }
-        ensures products { (d : K.Set) (n : ℕ) → n < length tables.now.nodes.now → OnlyProducts (family_of self.now) (row_of (K.means kind.new) self.now.states cells.new d n) }
-        ensures filled { (d : K.Set) → Filled (family_of self.now) tables.now.exprs.now tables.now.nodes.now (row_of (K.means kind.new) self.now.states cells.new d) no_pairs (last tables.now.nodes.now) }
+        ensures beyond { (i : ℕ) → length tables.now.nodes.now * self.now.states ≤ i → slice_get cells.new i ≡ slice_get cells.old i }
+        ensures products { (n : ℕ) → n < length tables.now.nodes.now → OnlyProducts (family_of self.now) (row_of (K.means kind.new) self.now.states cells.new n) }
+        ensures filled { Filled (family_of self.now) tables.now.exprs.now tables.now.nodes.now (row_of (K.means kind.new) self.now.states cells.new) no_pairs (last tables.now.nodes.now) }
     {
         let all = first(kind, self.products.len());
         let conditions = self.conditions(all, kind);
@@ -114,12 +115,7 @@ impl FamilyView<'_> {
         kind: &mut K,
         cells: &mut [K::Set],
     ) -> (u8, usize)
-        ensures answer { (d : K.Set) → Answered (family_of self.now) exprs.now nodes.now K.places (length cells.old) (K.means kind.new (slice_index_or cells.new (last nodes.now * self.now.states) d)) result.0 result.1 }
-        ensures refused { (result.0 ≢ 0) → (kind.new ≡ kind.old) × (cells.new ≡ cells.old) }
-        ensures room { result.0 ≡ 0 → length nodes.now * self.now.states ≤ length cells.old }
-        ensures filled { result.0 ≡ 0 → (d : K.Set) → Filled (family_of self.now) exprs.now nodes.now (row_of (K.means kind.new) self.now.states cells.new d) no_pairs (last nodes.now) }
-        ensures products { result.0 ≡ 0 → (d : K.Set) (n : ℕ) → n < length nodes.now → OnlyProducts (family_of self.now) (row_of (K.means kind.new) self.now.states cells.new d n) }
-        ensures beyond { result.0 ≡ 0 → (i : ℕ) (d : K.Set) → length nodes.now * self.now.states ≤ i → slice_index_or cells.new i d ≡ slice_index_or cells.old i d }
+        ensures law { CheckLaw K.means K.places (family_of self.now) exprs.now nodes.now kind.old cells.old kind.new cells.new result.0 result.1 }
         ensures kept { K.means kind.new ≡ K.means kind.old }
     {
         match self.admitted(exprs, nodes, kind, cells) {

@@ -1,4 +1,5 @@
-use Rattle.std.proofs.Common.{◌≡◌, ℕ, ◌*◌, List, length, get_or, refl, subst, arith}
+use Rattle.std.proofs.Common.{◌≡◌, ℕ, ◌*◌, ◌<◌, ◌≤◌, List, length, get_or, sym, refl, ap, ◌∙◌, subst, arith}
+use Rattle.std.specs.List.{slice_get}
 use Rattle.std.proofs.lemmas.List.{get_or_read}
 use Rattle.families.specs.Families.{count}
 use Rattle.formulas.specs.Sound.{Sound}
@@ -6,15 +7,18 @@ use Rattle.formulas.specs.Tables.{last}
 use Rattle.formulas.specs.declared.Expr.{Expr}
 use Rattle.formulas.specs.declared.Node.{Node}
 use Rattle.semantics.specs.Entries.{Filled, no_pairs}
+use Rattle.product_sets.specs.Cells.{in_cell}
+use Rattle.product_sets.proofs.Cells.{cell_at}
 use Rattle.checker.specs.Gathered.{family_of}
-use Rattle.checker.specs.Walks.{rows_or as rows}
+use Rattle.checker.specs.Walks.{rows, OnlyProducts}
 use Rattle.checker.specs.Checks.{how_many, Answered, accepted}
 use Rattle.checker.proofs.Places.{row_fits}
 use Rattle.checker.proofs.Tables.{sound_tables}
+use Rattle.checker.proofs.Answering.{how_many_same}
 use Rattle.checker.proofs.view.FamilyView.check.Goals as goal
 
-pub returns-in-Ok-clause-answer : goal.returns-in-Ok-clause-answer
-returns-in-Ok-clause-answer g c = λ d.
+pub returns-in-Ok : goal.returns-in-Ok
+returns-in-Ok g c =
     let F = family_of c.args.self.now in
     let S = c.args.self.now.states in
     let es = c.args.exprs.now in
@@ -24,17 +28,21 @@ returns-in-Ok-clause-answer g c = λ d.
     let fits = c.in-Ok.ensures.fits refl in
     let sound : Sound es ns = subst (λ (xs : List Node). Sound es xs) same.1 (subst (λ (xs : List Expr). Sound xs tables.nodes.now) same.0 (sound_tables tables)) in
     let r = row_fits (last ns) (length ns) S (length c.fill.new.cells) (omega (arith, sound.some)) (omega (arith, fits.1)) in
-    let read : c.index-cells-nodes.result ≡ get_or c.fill.new.cells (last ns * S) d =
-    get_or_read c.fill.new.cells (last ns * S) c.index-cells-nodes.result (omega arith) c.index-cells-nodes.is d in
-    let value : how_many (count F) (g.K.Kind.means c.fill.new.kind (get_or c.fill.new.cells (last ns * S) d)) ≡ c.count_in.result =
-    (let v = c.count_in.ensures in let is = c.index-cells-nodes.is in cc) in
-    subst (λ (v : ℕ). Answered F es ns g.K.Kind.places (length c.args.cells.now) (g.K.Kind.means c.fill.new.kind (get_or c.fill.new.cells (last ns * S) d)) 0 v) value
-    (accepted sound fits.0 fits.1)
-
-pub returns-in-Ok-clause-filled : goal.returns-in-Ok-clause-filled
-returns-in-Ok-clause-filled g c = λ _ d.
-    let F = family_of c.args.self.now in
-    let same = c.in-Ok.ensures.same in
-    let R = rows (g.K.Kind.means c.fill.new.kind) c.args.self.now.states c.fill.new.cells d in
-    subst (λ (xs : List Node). Filled F c.args.exprs.now xs R no_pairs (last xs)) same.1
-    (subst (λ (xs : List Expr). Filled F xs c.in-Ok.tables.nodes.now R no_pairs (last c.in-Ok.tables.nodes.now)) same.0 (c.fill.ensures.filled d))
+    let M = g.K.Kind.means c.fill.new.kind in
+    let R = rows M S c.fill.new.cells in
+    let read : c.index-cells-nodes.result ≡ get_or c.fill.new.cells (last ns * S) c.index-cells-nodes.result =
+    get_or_read c.fill.new.cells (last ns * S) c.index-cells-nodes.result (omega arith) c.index-cells-nodes.is c.index-cells-nodes.result in
+    let value : how_many (count F) (in_cell M c.fill.new.cells (last ns * S)) ≡ c.count_in.result =
+    (how_many_same (count F) _ _ (λ p p<. cell_at M c.fill.new.cells (last ns * S) c.index-cells-nodes.result p (omega arith) ∙ ap (λ y. M y p) (sym read)) ∙ sym c.count_in.ensures) in
+    record {
+      law = record {
+        answer = subst (λ (v : ℕ). Answered F es ns g.K.Kind.places (length c.args.cells.now) (in_cell M c.fill.new.cells (last ns * S)) 0 v) value (accepted sound fits.0 fits.1);
+        room = λ _. fits.1;
+        filled = λ _. subst (λ (xs : List Node). Filled F es xs R no_pairs (last xs)) same.1
+            (subst (λ (xs : List Expr). Filled F xs tables.nodes.now R no_pairs (last tables.nodes.now)) same.0 c.fill.ensures.filled);
+        products = λ _. subst (λ (xs : List Node). (n : ℕ) → n < length xs → OnlyProducts F (R n)) same.1 c.fill.ensures.products;
+        beyond = λ _. subst (λ (xs : List Node). (i : ℕ) → length xs * S ≤ i → slice_get c.fill.new.cells i ≡ slice_get c.args.cells.now i) same.1 c.fill.ensures.beyond;
+        refused = λ off. absurd (off refl);
+      };
+      kept = c.fill.ensures.kept;
+    }

@@ -1,11 +1,12 @@
 use Rattle.std.proofs.Common.{◌≡◌, ℕ, ◌+◌, ◌*◌, ◌<◌, T, length, get_or, sym, ap, ◌∙◌, subst, arith}
-use Rattle.std.proofs.lemmas.List.{get_or_default}
 use Rattle.formulas.specs.Tables.{last}
 use Rattle.formulas.proofs.Trees.{under_le}
 use Rattle.semantics.specs.Entries.{no_pairs}
 use Rattle.semantics.proofs.Rows.{filled_same, same_refl}
 use Rattle.checker.specs.Gathered.{family_of, Everyone, Meeting, Satisfying}
-use Rattle.checker.specs.Walks.{rows_or as rows}
+use Rattle.product_sets.specs.Cells.{in_cell}
+use Rattle.product_sets.proofs.Cells.{cell_at, same_cell}
+use Rattle.checker.specs.Walks.{rows, rows_or}
 use Rattle.checker.proofs.Places.{row_fits}
 use Rattle.checker.proofs.Tables.{sound_tables}
 use Rattle.checker.proofs.Collecting.{first_places}
@@ -55,14 +56,14 @@ returns g c =
     let M3 = g.K.Kind.means c.satisfied-satisfied.new.kind in
     let M4 = g.K.Kind.means c.walk.new.kind in
     let w = c.walk.ensures.walked in
-    let cell : (d : g.row.K-Set.Denot) (n s p : ℕ) → n < length ns → s < S → M4 (get_or c.walk.new.cells (n * S + s) d) p ≡ M3 (get_or c.walk.new.cells (n * S + s) all) p =
-    λ d n s p n< s<. (let r = row_fits n (length ns) S (length c.walk.new.cells) n< (omega arith) in
-    ap (λ m. m (get_or c.walk.new.cells (n * S + s) d) p) c.walk.ensures.kept ∙ ap (λ y. M3 y p) (get_or_default c.walk.new.cells (n * S + s) d all (omega arith))) in
+    let cell : (n s p : ℕ) → n < length ns → s < S → in_cell M4 c.walk.new.cells (n * S + s) p ≡ M3 (get_or c.walk.new.cells (n * S + s) all) p =
+    λ n s p n< s<. (let r = row_fits n (length ns) S (length c.walk.new.cells) n< (omega arith) in
+    cell_at M4 c.walk.new.cells (n * S + s) all p (omega arith) ∙ ap (λ m. m (get_or c.walk.new.cells (n * S + s) all) p) c.walk.ensures.kept) in
     record {
       kept = c.walk.ensures.kept ∙ c.satisfied-satisfied.ensures.kept ∙ c.conditions-conditions.ensures.kept ∙ c.first-all.ensures.kept;
-      beyond = λ i d h. c.walk.ensures.framed.0 i d h;
-      products = λ d n n< s p s< t. w.products n (sound.whole n n<) s p s< (subst T (cell d n s p n< s<) t);
-      filled = λ d. filled_same F es ns sound.tree (rows M3 S c.walk.new.cells all) (rows M4 S c.walk.new.cells d) no_pairs no_pairs (last ns) (λ v. same_refl F (no_pairs v))
-          (λ m u s p s< p<. same_by _ _ (sym (cell d m s p (omega (arith, under_le ns sound.tree (last ns) m u, sound.some)) s<)))
+      beyond = λ i h. same_cell c.args.cells.now c.walk.new.cells i (omega arith) (λ d. c.walk.ensures.framed.0 i d h);
+      products = λ n n< s p s< t. w.products n (sound.whole n n<) s p s< (subst T (cell n s p n< s<) t);
+      filled = filled_same F es ns sound.tree (rows_or M3 S c.walk.new.cells all) (rows M4 S c.walk.new.cells) no_pairs no_pairs (last ns) (λ v. same_refl F (no_pairs v))
+          (λ m u s p s< p<. same_by _ _ (sym (cell m s p (omega (arith, under_le ns sound.tree (last ns) m u, sound.some)) s<)))
           (w.filled no_pairs (nothing_above es ns sound _));
     }
