@@ -1,7 +1,9 @@
 -- What a call on a book answers: a number, 0 where it is accepted, and a value, 0 where it is refused.
 use Rattle.std.specs.Prelude.{ℕ, Result, Ok, Err}
 use Rattle.book.specs.declared.refusals.Refusal.{Refusal}
-use Rattle.book.specs.declared.refusals.Refusal.TheVariants.{BadStateCount, ProductsFull, ProductHeld, OutOfRange, TransitionHeld, TransitionsFull, NotHeld, BadLength, BadRecord}
+use Rattle.book.specs.declared.refusals.Refusal.TheVariants.{BadStateCount, ProductsFull, ProductHeld}
+use Rattle.book.specs.declared.refusals.Refusal.TheVariants.{OutOfRange, TransitionHeld, TransitionsFull}
+use Rattle.book.specs.declared.refusals.Refusal.TheVariants.{NotHeld, BadLength, BadRecord}
 
 abbrev pub number_of : Refusal → ℕ
 number_of BadStateCount = 1

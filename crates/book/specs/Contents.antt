@@ -6,7 +6,8 @@ use Rattle.book.specs.declared.books.OpenBook.{OpenBook}
 use Rattle.book.specs.declared.books.ClosedBook.{ClosedBook}
 
 abbrev pub family : Contents → Family
-family c = record { states = c.states; products = vec_items c.products; transitions = vec_items c.transitions }
+family c =
+    record { states = c.states; products = vec_items c.products; transitions = vec_items c.transitions }
 
 abbrev pub contents : OpenBook → Family
 contents b = family b.contents

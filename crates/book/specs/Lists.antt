@@ -4,8 +4,8 @@ use Rattle.std.specs.List.{list_any}
 
 module _ {X : Type 0} (same : X → X → Bool) where
   -- Whether one like x is in the list.
-  abbrev pub held : X → List X → Bool
-  held x ys = list_any (λ y. same y x) ys
+  abbrev pub is_held : X → List X → Bool
+  is_held x ys = list_any (λ y. same y x) ys
 
   -- The list without the first one like x; the others keep their order.
   abbrev pub without : X → List X → List X

@@ -1,5 +1,6 @@
 -- Loading: the records in order, up to the first that is bad.
-use Rattle.std.specs.Prelude.{ℕ, zero, suc, ◌/◌, ◌%◌, Bool, if◌then◌else◌, not, ◌||◌, List, length, ◌==◌, nat_lt, Option, Some, None, Result, Ok, Err}
+use Rattle.std.specs.Prelude.{ℕ, zero, suc, ◌/◌, ◌%◌, Bool, if◌then◌else◌, not, ◌||◌, ◌==◌, nat_lt}
+use Rattle.std.specs.Prelude.{List, length, Option, Some, None, Result, Ok, Err}
 use Rattle.std.specs.Result.{result_unwrap_or}
 use Rattle.families.specs.Families.{Family}
 use Rattle.book.specs.declared.refusals.Refusal.{Refusal}
@@ -22,32 +23,33 @@ record_after f (Some (AddProduct c)) = product_after f c
 record_after f (Some (AddTransition t)) = transition_after f t
 
 -- How far a load has come: on to a family, or stopped by a refusal at a record.
-abbrev pub entered_or : Family → ℕ → Result ℕ Refusal → Result Family (Refusal × ℕ)
-entered_or g n (Ok v) = Ok g
-entered_or g n (Err r) = Err (r, n)
+abbrev pub progress : Family → ℕ → Result ℕ Refusal → Result Family (Refusal × ℕ)
+progress g n (Ok v) = Ok g
+progress g n (Err r) = Err (r, n)
 
 -- Record n, after those before it.
-abbrev pub enter : ℕ → Option Record → Result Family (Refusal × ℕ) → Result Family (Refusal × ℕ)
-enter n r (Err e) = Err e
-enter n r (Ok f) = entered_or (record_after f r) n (record_result f r)
+abbrev pub next_progress : ℕ → Option Record → Result Family (Refusal × ℕ) → Result Family (Refusal × ℕ)
+next_progress n r (Err e) = Err e
+next_progress n r (Ok f) = progress (record_after f r) n (record_result f r)
 
 -- The first n records.
-abbrev pub after_records : Family → List ℕ → ℕ → Result Family (Refusal × ℕ)
-after_records f bs zero = Ok f
-after_records f bs (suc n) = enter n (record_from bs n) (after_records f bs n)
+abbrev pub progress_after : Family → List ℕ → ℕ → Result Family (Refusal × ℕ)
+progress_after f bs zero = Ok f
+progress_after f bs (suc n) = next_progress n (record_from bs n) (progress_after f bs n)
 
 -- The length is no multiple of 8 or above 3,648.
-abbrev pub bad_length : List ℕ → Bool
-bad_length bs = not (length bs % 8 == 0) || nat_lt 3648 (length bs)
+abbrev pub has_bad_length : List ℕ → Bool
+has_bad_length bs = not (length bs % 8 == 0) || nat_lt 3648 (length bs)
 
 -- The value is the count of records, or the number of the one that is refused.
-abbrev pub told : ℕ → Result Family (Refusal × ℕ) → ℕ × ℕ
-told n (Ok f) = (0, n)
-told n (Err e) = (number_of e.0, e.1)
+abbrev pub progress_answer : ℕ → Result Family (Refusal × ℕ) → ℕ × ℕ
+progress_answer n (Ok f) = (0, n)
+progress_answer n (Err e) = (number_of e.0, e.1)
 
 abbrev pub load_answer : Family → List ℕ → ℕ × ℕ
 load_answer f bs =
-    if bad_length bs then answer_of (Err BadLength) else told (length bs / 8) (after_records f bs (length bs / 8))
+    if has_bad_length bs then answer_of (Err BadLength)
+    else progress_answer (length bs / 8) (progress_after f bs (length bs / 8))
 
 abbrev pub load_after : Family → List ℕ → Family
-load_after f bs = if bad_length bs then f else result_unwrap_or (after_records f bs (length bs / 8)) f
+load_after f bs = if has_bad_length bs then f else result_unwrap_or (progress_after f bs (length bs / 8)) f

@@ -1,6 +1,7 @@
 // Opening, adding and striking.
 ghost use Rattle.std.specs.Prelude.{◌≡◌, ◌≤◌, if◌then◌else◌, [], IfOk, position};
-ghost use Rattle.book.specs.Rules.{state_count_fits, product_result, product_after, same_transition, transition_result, transition_after, strike_result, strike_after};
+ghost use Rattle.book.specs.Rules.{state_count_fits, same_transition, product_result, product_after};
+ghost use Rattle.book.specs.Rules.{transition_result, transition_after, strike_result, strike_after};
 ghost use Rattle.book.specs.Contents.{family};
 
 use crate::contents::Contents;
@@ -21,14 +22,15 @@ pub(crate) fn state_count(states: usize) -> Result<usize, Refusal>
 
 impl Contents {
     // Nothing yet, with room for all that a book may ever hold.
-    pub(crate) fn empty(heap: Global, states: usize) -> Result<Contents, AllocError>
+    pub(crate) fn empty(alloc: Global, states: usize) -> Result<Contents, AllocError>
         requires { (1 ≤ states) × (states ≤ 64) }
-        ensures { IfOk result (λ c. family c ≡ record { states = states; products = []; transitions = [] }) }
+        ensures { IfOk result (λ c. family c
+            ≡ record { states = states; products = []; transitions = [] }) }
     {
         Ok(Contents {
             states,
-            products: Vec::with_capacity(heap, MAX_PRODUCTS)?,
-            transitions: Vec::with_capacity(heap, MAX_TRANSITIONS)?,
+            products: Vec::with_capacity(alloc, MAX_PRODUCTS)?,
+            transitions: Vec::with_capacity(alloc, MAX_TRANSITIONS)?,
         })
     }
 

@@ -1,4 +1,4 @@
-// The book of a family: its states, products and transitions, open for changes or closed for questions.
+//! The book of a family: its states, products and transitions, open for changes or closed for questions.
 #![tactic(auto)]
 
 pub mod books;

@@ -38,8 +38,9 @@ impl OpenBook {
         }
     }
 
-    /// Enters every record of eight bytes in order; the first bad one keeps the whole load out. Accepted, the value
-    /// is the count of records; refused at a record, it is that record's number.
+    /// Enters every record of eight bytes in order; the first bad one keeps the whole load out. Accepted, the
+    /// value is the count of records; refused at a record, by 2 to 6 or 9, it is that record's number.
+    /// Refused by 8 if the length is no multiple of 8 or is above 3,648.
     pub fn load(&mut self, bytes: &[u8]) -> (u8, usize)
         ensures answer { result ≡ load_answer (contents self.old) bytes.now }
         ensures book { contents self.new ≡ load_after (contents self.old) bytes.now }

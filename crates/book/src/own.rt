@@ -8,8 +8,8 @@ use crate::books::ClosedBook;
 use families::Transition;
 use std::alloc::{AllocError, Global};
 
-// An own transition of a product: one from `source` by `action` to `target` that it has, whichever transitions of
-// the book give it.
+/// An own transition of a product: one from `source` by `action` to `target` that it has, whichever
+/// transitions of the book give it.
 #[derive(Clone, Copy, PartialEq, Eq)]
 pub struct OwnTransition {
     pub source: u8,
@@ -38,13 +38,13 @@ fn owned(transitions: &[Transition], configuration: u16, own: OwnTransition) -> 
 }
 
 fn list_all(
-    heap: Global,
+    alloc: Global,
     transitions: &[Transition],
     configuration: u16,
 ) -> Result<Vec<OwnTransition>, AllocError>
     ensures { IfOk result (λ v. Listed configuration transitions.now v.items) }
 {
-    let mut list = Vec::new(heap);
+    let mut list = Vec::new(alloc);
     for t in transitions {
         let own = OwnTransition::from(*t);
         if t.met_by(configuration) && !list.contains(&own) {
@@ -55,23 +55,25 @@ fn list_all(
 }
 
 impl ClosedBook {
-    // How many states the book has.
+    /// How many states the book has.
     pub fn states(&self) -> usize
         ensures { result ≡ (closed_contents self.now).states }
     {
         self.contents.states
     }
 
-    // The configurations of the products, by their numbers.
+    /// The configurations of the products, by their numbers.
     pub fn products(&self) -> &[u16]
         ensures { result.now ≡ (closed_contents self.now).products }
     {
         &self.contents.products
     }
 
-    // Whether a product has an own transition; a number that is no product's has none.
+    /// Whether a product has an own transition; a number that is no product's has none.
     pub fn owns(&self, product: usize, own: OwnTransition) -> bool
-        ensures { IsTrue result ↔ ((product < count (closed_contents self.now)) × Owns (closed_contents self.now).transitions (config (closed_contents self.now) product) own.source own.action own.target) }
+        ensures { let f = closed_contents self.now in
+            IsTrue result ↔ ((product < count f)
+            × Owns f.transitions (config f product) own.source own.action own.target) }
     {
         let Some(configuration) = self.products().get(product) else {
             return false;
@@ -79,18 +81,19 @@ impl ClosedBook {
         owned(&self.contents.transitions, *configuration, own)
     }
 
-    // The own transitions of a product in the order of the book, each once; a number that is no product's has none.
+    /// The own transitions of a product in the order of the book, each once; a number that is no product's
+    /// has none. An error if there is no memory for the list.
     pub fn own_transitions(
         &self,
-        heap: Global,
+        alloc: Global,
         product: usize,
     ) -> Result<Vec<OwnTransition>, AllocError>
         ensures listed { IfOk result (λ v. ListsOf (closed_contents self.now) product v.items) }
         ensures own { IfOk result (λ v. ExactlyOwn (closed_contents self.now) product v.items) }
     {
         let Some(configuration) = self.products().get(product) else {
-            return Ok(Vec::new(heap));
+            return Ok(Vec::new(alloc));
         };
-        list_all(heap, &self.contents.transitions, *configuration)
+        list_all(alloc, &self.contents.transitions, *configuration)
     }
 }

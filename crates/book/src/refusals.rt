@@ -4,16 +4,26 @@ ghost use Rattle.book.specs.Answers.{number_of, answer_of};
 
 use families::ACCEPTED;
 
+/// Why a call on a book refuses. `u8::from` gives the number of each, 1 to 9 in this order.
 #[derive(Clone, Copy, Debug, PartialEq, Eq)]
 pub enum Refusal {
+    /// The count of states is 0 or above 64.
     BadStateCount,
+    /// 200 products are held.
     ProductsFull,
+    /// A product with the configuration is held.
     ProductHeld,
+    /// Source or target is no state of the book, or the action is above 63.
     OutOfRange,
+    /// A transition with the same five fields is held.
     TransitionHeld,
+    /// 256 transitions are held.
     TransitionsFull,
+    /// No transition with the same five fields is held.
     NotHeld,
+    /// The bytes of a load are no records, or more than a full book has.
     BadLength,
+    /// A record is of no kind, or has a byte that must be 0 and is not.
     BadRecord,
 }
 

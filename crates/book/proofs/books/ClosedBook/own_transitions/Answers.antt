@@ -14,4 +14,6 @@ returns-clause-own c =
     let e : c.in-Some.configuration.now ≡ config f c.args.product = search (rules, nat_tests) in
     made_own f c.args.product vec_items h c.list_all.result
     (subst (λ (x : ℕ). IfOk c.list_all.result (λ v. Listed x f.transitions (vec_items v))) e
-    (subst (λ (ts : List Transition). IfOk c.list_all.result (λ v. Listed c.in-Some.configuration.now ts (vec_items v))) c.deref.ensures.value c.list_all.ensures))
+    (subst
+    (λ (ts : List Transition). IfOk c.list_all.result (λ v. Listed c.in-Some.configuration.now ts (vec_items v)))
+    c.deref.ensures.value c.list_all.ensures))

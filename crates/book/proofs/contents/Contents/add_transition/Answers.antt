@@ -12,6 +12,8 @@ invariant_of-self-clause-lawful c =
     let l = c.args.self.now.lawful in
     let w : transition_within s t ≡ true = grind (arith, nat_tests) in (
       l.0,
-      all_pairs_differ_push same_transition same_transition_itself t _ _ _ l.1 c.deref.ensures.value c.if-contains.ensures.cases c.push_reserved.ensures.items,
-      ap (all_within s) c.push_reserved.ensures.items ∙ within_push s (vec_items c.args.self.now.transitions) t l.2 w,
+      all_pairs_differ_push same_transition same_transition_itself t _ _ _ l.1
+          c.deref.ensures.value c.if-contains.ensures.cases c.push_reserved.ensures.items,
+      ap (all_within s) c.push_reserved.ensures.items
+          ∙ within_push s (vec_items c.args.self.now.transitions) t l.2 w,
     )

@@ -9,5 +9,6 @@ invariant_of-self-clause-lawful c =
     let l = c.args.self.now.lawful in (
       subst (AllPairs ◌≢◌) (sym c.truncate.ensures.items) (all_pairs_take ◌≢◌ _ _ l.0),
       subst (AllPairs ◌≢◌) (sym c.truncate-2.ensures.items) (all_pairs_take ◌≢◌ _ _ l.1),
-      ap (all_within c.args.self.now.states) c.truncate-2.ensures.items ∙ within_take c.args.self.now.states _ _ l.2,
+      ap (all_within c.args.self.now.states) c.truncate-2.ensures.items
+          ∙ within_take c.args.self.now.states _ _ l.2,
     )

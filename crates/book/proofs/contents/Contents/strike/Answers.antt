@@ -18,7 +18,10 @@ returns-in_default c =
 
 pub remove-requires : goal.remove-requires
 remove-requires c =
-    let h = (first_at same_transition c.args.transition (vec_items c.args.self.now.transitions) c.in-Some.at (sym c.place_of.ensures ∙ c.in-Some.is)).0 in omega arith
+    let ts = vec_items c.args.self.now.transitions in
+    let found = sym c.place_of.ensures ∙ c.in-Some.is in
+    let h = (first_at same_transition c.args.transition ts c.in-Some.at found).0 in
+    omega arith
 
 pub invariant_of-self-clause-lawful : goal.invariant_of-self-clause-lawful
 invariant_of-self-clause-lawful c =
@@ -28,7 +31,8 @@ invariant_of-self-clause-lawful c =
     let f = first_at same_transition t ts c.in-Some.at (sym c.place_of.ensures ∙ c.in-Some.is) in (
       l.0,
       subst (AllPairs ◌≢◌) (sym c.remove.ensures.items) (all_pairs_remove ◌≢◌ ts c.in-Some.at f.0 l.1),
-      ap (all_within c.args.self.now.states) (c.remove.ensures.items ∙ sym f.2) ∙ within_without c.args.self.now.states t ts l.2,
+      ap (all_within c.args.self.now.states) (c.remove.ensures.items ∙ sym f.2)
+          ∙ within_without c.args.self.now.states t ts l.2,
     )
 
 pub returns : goal.returns
