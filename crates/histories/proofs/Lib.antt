@@ -1,2 +1,5 @@
-mod Plain
-mod Columns
+mod Lists
+mod Ledger
+mod Tables
+mod Running
+mod Alike

@@ -1,21 +1,58 @@
--- What the cells of a check hold, product by product.
-use Rattle.std.specs.Prelude.{◌≡◌, ℕ, ◌+◌, ◌*◌, ◌<◌, Bool, T, ◌↔◌, List, length, slice_index_or}
-use Rattle.families.specs.Families.{Family, count, config}
+-- The column law: products that are alike get equal columns.
+use Rattle.std.specs.Prelude.{◌≡◌, ℕ, ◌<◌, Bool, ◌↔◌, IsTrue, IsSome, List, length}
+use Rattle.std.specs.Prelude.{Option, None, Some, slice_get, option_and_then}
+use Rattle.std.specs.Borrow.{Bor}
+use Rattle.families.specs.Families.{Family, count}
 use Rattle.formulas.specs.declared.Expr.{Expr}
 use Rattle.formulas.specs.declared.Node.{Node}
-use Rattle.semantics.specs.Meaning.{projection}
-use Rattle.semantics.specs.Entries.{EntryHolds}
+use Rattle.semantics.specs.Laws.{Like}
+use Rattle.histories.specs.declared.calls.Call.TheVariants.{Check}
+use Rattle.histories.specs.declared.table.Table.{Table}
+use Rattle.histories.specs.declared.columns.Column.{Column}
+use Rattle.histories.specs.Ledger.{ledger_at}
+use Rattle.histories.specs.Tables.{column}
+use Rattle.histories.specs.Logs.{table_at}
 
--- A place is in the cell of entry n and state s exactly if it is a product, and the entry holds there by plain checking of the product's
--- configuration and own transitions. `mean` says which places are in a set.
-abbrev pub PlainCells : {X : Type 0} → (X → ℕ → Bool) → Family → List Expr → List Node → List X → Type 0
-PlainCells {X} mean F es ns cells = (d : X) (n s p : ℕ) → n < length ns → s < F.states
-    → T (mean (slice_index_or cells (n * F.states + s) d) p) ↔ ((p < count F) × EntryHolds (projection F p) (config F p) es ns n s)
+-- The table that a column is in, the answers there, and the ledger of its check.
+abbrev pub table_of_column : Column → Option Table
+table_of_column c = table_at c.log.now.replies.items c.position
 
--- Place i in some cells, and place j in others, from a cell on for k cells: both are in or both are out.
-abbrev pub SameCells : {X Y : Type 0} → (X → ℕ → Bool) → List X → ℕ → (Y → ℕ → Bool) → List Y → ℕ → ℕ → ℕ → Type 0
-SameCells {X} {Y} mean xs i mean' ys j start k = (s : ℕ) (d : X) (e : Y) → s < k → mean (slice_index_or xs (start + s) d) i ≡ mean' (slice_index_or ys (start + s) e) j
+abbrev pub answers : Column → Option (List Bool)
+answers c = option_and_then (λ table. column table c.product) (table_of_column c)
 
--- The two places have one column: they are alike in the cells of each of the entries, one for each state.
-abbrev pub SameColumn : {X Y : Type 0} → (X → ℕ → Bool) → List X → ℕ → (Y → ℕ → Bool) → List Y → ℕ → ℕ → ℕ → Type 0
-SameColumn mean xs i mean' ys j states entries = (n : ℕ) → n < entries → SameCells mean xs i mean' ys j (n * states) states
+abbrev pub ledger_of : Column → Family
+ledger_of c = ledger_at c.log.now.history.states c.log.now.history.calls.now c.position
+
+-- Two columns can be compared: they are in tables with equally many entries and states, and of products there.
+pub record AreComparable (one other : Column) : Type 0 where
+  pub table : Table
+  pub other_table : Table
+  pub is_table : table_of_column one ≡ Some table
+  pub is_other : table_of_column other ≡ Some other_table
+  pub entries : table.entries ≡ other_table.entries
+  pub states : table.states ≡ other_table.states
+  pub product : one.product < length table.columns.items
+  pub other_product : other.product < length other_table.columns.items
+
+-- A comparison answers none where there is nothing to compare, and else whether the two have the same answers.
+abbrev pub Compares : Column → Column → Option Bool → Type 0
+Compares one other None = ¬ AreComparable one other
+Compares one other (Some same) = AreComparable one other × (IsTrue same ↔ (answers one ≡ answers other))
+
+-- The column is that of a product in an accepted check of these tables.
+pub record IsColumnOf (c : Column) (es : List Expr) (ns : List Node) : Type 0 where
+  pub exprs : Bor (List Expr)
+  pub nodes : Bor (List Node)
+  pub call : slice_get c.log.now.history.calls.now c.position ≡ Some (Check exprs nodes)
+  pub same_exprs : exprs.now ≡ es
+  pub same_nodes : nodes.now ≡ ns
+  pub accepted : IsSome (table_of_column c)
+  pub product : c.product < count (ledger_of c)
+
+-- The column law. Two products that are alike, in configuration and in own transitions as the ledgers of two accepted
+-- checks then have them, have the same answers in these checks of the same tables: of one run or of two, whatever the
+-- order, the numbering, the neighbours and the kinds.
+abbrev pub ColumnLaw : Column → Column → Type 0
+ColumnLaw one other =
+    (es : List Expr) (ns : List Node) → IsColumnOf one es ns → IsColumnOf other es ns
+    → Like (ledger_of one) one.product (ledger_of other) other.product → answers one ≡ answers other

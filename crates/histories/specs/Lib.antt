@@ -1,3 +1,6 @@
-pub mod History
+pub mod Ledger
+pub mod Tables
+pub mod Logs
+pub mod Phases
+pub mod Runs
 pub mod Columns
-pub mod Laws

@@ -1,6 +1,9 @@
-// Histories of books: whole runs of calls, and what is checked at their end.
+//! Histories of books: whole runs of calls, and what their checks find.
 #![tactic(auto)]
 
 pub mod calls;
-pub mod compare;
+pub mod columns;
+pub mod log;
+mod phase;
 pub mod run;
+pub mod table;

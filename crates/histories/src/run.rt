@@ -1,48 +1,42 @@
-// A history on a real book, and a check at its end.
+// The run of a history on a book.
 ghost use Rattle.std.specs.Prelude.{◌≡◌, length, IfOk, OnErr};
-ghost use Rattle.book.specs.Contents.{closed_contents};
-ghost use Rattle.histories.specs.Laws.{left, HistoryLaw};
+ghost use Rattle.histories.specs.Logs.{HistoryLaw};
+ghost use Rattle.histories.specs.Runs.{Runs, RunsFront};
 
-use crate::calls::{History, Phase};
-use book::books::{ClosedBook, OpenBook};
-use formulas::{Expr, Node};
+use crate::calls::History;
+use crate::log::Log;
+use crate::phase::Phase;
+use book::books::OpenBook;
 use product_sets::Kind;
 use std::alloc::{AllocError, Global};
 
-// The book that a history leaves, closed. Its checks use the kind and the cells; without memory for a book nothing is run.
-fn replay<K: Kind>(
-    heap: Global,
-    history: History<'_, '_>,
+/// Opens a book and makes the calls of a history on it, its checks with this kind and in these cells. Where memory ends
+/// the run does too, and the kind and the cells are as the calls up to there leave them.
+pub fn run<'c, 'b, K: Kind>(
+    alloc: Global,
+    history: History<'c, 'b>,
     kind: &mut K,
     cells: &mut [K::Set],
-) -> Result<ClosedBook, AllocError>
-    ensures book { IfOk result (λ b. closed_contents b ≡ left history.entry) }
-    ensures failed { OnErr result ((kind.new ≡ kind.old) × (cells.new ≡ cells.old)) }
+) -> Result<Log<'c, 'b>, AllocError>
+    ensures of { IfOk result (λ log. log.history ≡ history.entry) }
+    ensures law { IfOk result (λ log. HistoryLaw K.places (length cells.old)
+        history.entry.states history.entry.calls.now log.opening log.replies.items) }
+    ensures left { IfOk result (λ _. Runs K.means K.places
+        history.entry.states kind.old cells.old history.entry.calls.now kind.new cells.new) }
+    ensures failed { OnErr result (RunsFront K.means K.places
+        history.entry.states kind.old cells.old history.entry.calls.now kind.new cells.new) }
 {
-    let (_, book) = OpenBook::open(heap, history.states)?;
+    let (opening, book) = OpenBook::open(alloc, history.states)?;
     let mut phase = Phase::Open(book);
-    // No fold: of a closure that changes the kind and the cells, too little would be known.
+    let mut replies = Vec::new(alloc);
     for call in history.calls {
-        phase = phase.after(call, kind, cells);
+        let (next, reply) = phase.after(alloc, call, kind, cells)?;
+        phase = next;
+        replies.push(reply)?;
     }
-    Ok(phase.closed())
-}
-
-// Runs a history, and then checks a formula on the closed book, which is given back beside the answer. Without
-// memory for a book nothing is run. Kind and cells are lent one by one, since the caller reads them apart afterwards.
-pub fn run<K: Kind>(
-    heap: Global,
-    history: History<'_, '_>,
-    exprs: &[Expr],
-    nodes: &[Node],
-    kind: &mut K,
-    cells: &mut [K::Set],
-) -> Result<((u8, usize), ClosedBook), AllocError>
-    ensures book { IfOk result (λ x. closed_contents x.1 ≡ left history.entry) }
-    ensures law { IfOk result (λ x. HistoryLaw K.places (K.means kind.new) (left history.entry) exprs.now nodes.now (length cells.old) cells.new x.0.0 x.0.1) }
-    ensures failed { OnErr result ((kind.new ≡ kind.old) × (cells.new ≡ cells.old)) }
-{
-    let book = replay(heap, history, kind, cells)?;
-    let answer = book.check(exprs, nodes, kind, cells);
-    Ok((answer, book))
+    Ok(Log {
+        history,
+        opening,
+        replies,
+    })
 }

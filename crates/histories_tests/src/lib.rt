@@ -1,4 +1,4 @@
-// Whole histories on the four-product family: which transitions are left, and whose columns are the same.
+//! Whole histories on the four-product family: what every call is told, what every check finds, and whose columns are equal.
 #![tactic(auto)]
 
 #[cfg(test)]
@@ -6,24 +6,26 @@ mod tests {
     use families::Transition;
     use formulas::{Expr, Node};
     use histories::calls::{Call, History};
-    use histories::compare::compare;
+    use histories::columns::Column;
+    use histories::log::{Log, Reply};
     use histories::run::run;
     use product_sets::{Kind, Mask, Range, Single};
     use std::alloc::{AllocError, Global};
+    use std::process::Abort;
     use std::test::Fail;
 
     // Products with auto, with hand, with both and with neither; fill, rennet with auto, rennet with hand, test, cut.
     const FAMILY: &[u8] = b"P\x01\0\0\0\0\0\0P\x02\0\0\0\0\0\0P\x03\0\0\0\0\0\0P\0\0\0\0\0\0\0\
         T\0\0\x01\0\0\0\0T\x01\x01\x02\x01\0\0\0T\x01\x01\x02\x02\0\0\0T\x02\x02\x03\x01\0\0\0T\x02\x03\0\x02\0\0\0T\x03\x03\0\0\0\0\0";
 
-    // The same with the two rennets turned round.
-    const TURNED: &[u8] = b"P\x01\0\0\0\0\0\0P\x02\0\0\0\0\0\0P\x03\0\0\0\0\0\0P\0\0\0\0\0\0\0\
+    // The same with the two rennets turned round, and with the products in another order: both, hand, neither, auto.
+    const TURNED: &[u8] = b"P\x03\0\0\0\0\0\0P\x02\0\0\0\0\0\0P\0\0\0\0\0\0\0P\x01\0\0\0\0\0\0\
         T\0\0\x01\0\0\0\0T\x01\x01\x02\x02\0\0\0T\x01\x01\x02\x01\0\0\0T\x02\x02\x03\x01\0\0\0T\x02\x03\0\x02\0\0\0T\x03\x03\0\0\0\0\0";
 
-    const EXPRS: [Expr; 1] = [Expr::True];
+    const EXPRS: &[Expr] = &[Expr::True];
 
     // A rennet can follow the fill.
-    const RENNET_FOLLOWS: [Node; 3] = [
+    const RENNET_FOLLOWS: &[Node] = &[
         Node::True,
         Node::Diamond {
             action: 1,
@@ -37,154 +39,298 @@ mod tests {
         },
     ];
 
-    fn rennet_with(required: u16) -> Transition {
-        Transition {
-            source: 1,
-            action: 1,
-            target: 2,
-            required,
-            excluded: 0,
+    const CHECK: Call<'static> = Call::Check(EXPRS, RENNET_FOLLOWS);
+
+    const FILL: Transition = Transition {
+        source: 0,
+        action: 0,
+        target: 1,
+        required: 0,
+        excluded: 0,
+    };
+
+    const RENNET_BY_HAND: Transition = Transition {
+        source: 1,
+        action: 1,
+        target: 2,
+        required: 2,
+        excluded: 0,
+    };
+
+    // Three accepted checks of one book, and refused and left out calls around them.
+    const EDITED: [Call<'static>; 23] = [
+        CHECK,
+        Call::Reopen,
+        Call::Load(FAMILY),
+        Call::Load(FAMILY),
+        Call::AddProduct(2),
+        Call::AddTransition(RENNET_BY_HAND),
+        Call::AddTransition(Transition { target: 4, ..FILL }),
+        Call::Strike(Transition {
+            required: 3,
+            ..RENNET_BY_HAND
+        }),
+        Call::Load(b"P"),
+        Call::Close,
+        Call::AddProduct(7),
+        Call::Close,
+        CHECK,
+        Call::Check(EXPRS, &[]),
+        Call::Reopen,
+        Call::Strike(RENNET_BY_HAND),
+        Call::Close,
+        CHECK,
+        Call::Reopen,
+        Call::AddTransition(RENNET_BY_HAND),
+        Call::AddProduct(4),
+        Call::Close,
+        CHECK,
+    ];
+
+    // A reply without its table.
+    #[derive(Clone, Copy, PartialEq, Eq, Debug)]
+    enum Told {
+        NotAdmitted,
+        Done,
+        Answer(u8, usize),
+        Checked(usize),
+    }
+
+    const EDITED_TOLD: [Told; 23] = [
+        Told::NotAdmitted,
+        Told::NotAdmitted,
+        Told::Answer(0, 10),
+        Told::Answer(3, 0),
+        Told::Answer(3, 0),
+        Told::Answer(5, 0),
+        Told::Answer(4, 0),
+        Told::Answer(7, 0),
+        Told::Answer(8, 0),
+        Told::Done,
+        Told::NotAdmitted,
+        Told::NotAdmitted,
+        Told::Checked(3),
+        Told::Answer(10, 0),
+        Told::Done,
+        Told::Answer(0, 5),
+        Told::Done,
+        Told::Checked(2),
+        Told::Done,
+        Told::Answer(0, 6),
+        Told::Answer(0, 4),
+        Told::Done,
+        Told::Checked(3),
+    ];
+
+    fn without_table(reply: &Reply) -> Told {
+        match reply {
+            Reply::NotAdmitted => Told::NotAdmitted,
+            Reply::Done => Told::Done,
+            Reply::Answer(number, value) => Told::Answer(*number, *value),
+            Reply::Checked(value, _) => Told::Checked(*value),
         }
     }
 
-    fn answer(heap: Global, states: usize, calls: &[Call]) -> Result<(u8, usize), AllocError> {
-        let mut kind = Mask;
+    // A run in twelve cells, as many as three entries want in four states.
+    fn run_with<'c, 'b, K: Kind>(
+        alloc: Global,
+        states: usize,
+        calls: &'c [Call<'b>],
+        kind: &mut K,
+    ) -> Result<Log<'c, 'b>, AllocError> {
         let mut cells = [kind.none(); 12];
-        let history = History { states, calls };
-        let (answer, _) = run(
-            heap,
-            history,
-            &EXPRS,
-            &RENNET_FOLLOWS,
-            &mut kind,
-            &mut cells,
-        )?;
-        Ok(answer)
+        run(alloc, History { states, calls }, kind, &mut cells)
+    }
+
+    fn assert_told(rt: &impl Abort, log: &Log<'_, '_>, expected: &[Told]) {
+        assert_eq!(rt; log.replies.len(), expected.len());
+        for (reply, expected) in log.replies.iter().zip(expected) {
+            assert_eq!(rt; without_table(reply), *expected);
+        }
+    }
+
+    // The products at which the whole formula holds in state 0, a digit for each.
+    fn assert_digits(rt: &impl Abort, log: &Log<'_, '_>, position: usize, digits: &[u8]) {
+        let Some(table) = log.table(position) else {
+            panic!(rt; "no table at {position}");
+        };
+        assert_eq!(rt; table.columns.len(), digits.len());
+        for (product, digit) in digits.iter().enumerate() {
+            assert_eq!(rt; table.holds(2, 0, product), *digit == b'1');
+        }
+        assert!(rt; !table.holds(2, 0, digits.len()));
+        assert!(rt; !table.holds(usize::MAX, 0, 0) && !table.holds(0, 4, 0));
     }
 
     #[test]
-    fn refused_calls_change_nothing(rt: HostRuntime) -> Result<(), Fail> {
-        let heap = rt.alloc();
-        assert_eq!(rt; answer(heap, 4, &[Call::Load(FAMILY)])?, (0, 3));
-        let mut outside = rennet_with(0);
-        outside.target = 4;
+    fn every_call_is_told(rt: HostRuntime) -> Result<(), Fail> {
+        let by_mask = run_with(rt.alloc(), 4, &EDITED, &mut Mask)?;
+        let by_range = run_with(rt.alloc(), 4, &EDITED, &mut Range)?;
+        for log in [&by_mask, &by_range] {
+            assert_eq!(rt; log.opening, (0, 0));
+            assert_told(&rt, log, &EDITED_TOLD);
+            for (position, digits) in [(12, "1110"), (17, "1010"), (22, "11100")] {
+                assert_digits(&rt, log, position, digits.as_bytes());
+            }
+        }
+        Ok(())
+    }
+
+    #[test]
+    fn a_refused_opening_leaves_one_state(rt: HostRuntime) -> Result<(), Fail> {
         let calls = [
-            Call::Load(FAMILY),
             Call::Load(FAMILY),
             Call::AddProduct(2),
-            Call::AddTransition(rennet_with(2)),
-            Call::AddTransition(outside),
-            Call::Strike(rennet_with(3)),
-            Call::Load(b"P"),
+            Call::AddTransition(Transition { target: 0, ..FILL }),
+            Call::Close,
+            CHECK,
         ];
-        assert_eq!(rt; answer(heap, 4, &calls)?, (0, 3));
+        let expected = [
+            Told::Answer(4, 4),
+            Told::Answer(0, 0),
+            Told::Answer(0, 1),
+            Told::Done,
+            Told::Checked(0),
+        ];
+        for states in [0, 65] {
+            let log = run_with(rt.alloc(), states, &calls, &mut Single)?;
+            assert_eq!(rt; log.opening, (1, 0));
+            assert_told(&rt, &log, &expected);
+        }
         Ok(())
     }
 
     #[test]
-    fn a_strike_counts_after_reopening(rt: HostRuntime) -> Result<(), Fail> {
-        let heap = rt.alloc();
-        let third = rennet_with(2);
+    fn checks_are_refused(rt: HostRuntime) -> Result<(), Fail> {
+        const X: u8 = 23;
         let calls = [
             Call::Load(FAMILY),
             Call::Close,
-            Call::Check(&EXPRS, &RENNET_FOLLOWS),
-            Call::Strike(third),
-            Call::Reopen,
-            Call::Strike(third),
-            Call::Close,
-            Call::AddTransition(third),
-            Call::Reopen,
-            Call::AddTransition(third),
+            Call::Check(EXPRS, &[]),
+            Call::Check(&[Expr::True, Expr::Feature(16)], RENNET_FOLLOWS),
+            Call::Check(EXPRS, &[Node::True, Node::Not(1)]),
+            Call::Check(EXPRS, &[Node::True, Node::True]),
+            Call::Check(
+                EXPRS,
+                &[
+                    Node::Variable(X),
+                    Node::Variable(X),
+                    Node::Least(X, 1),
+                    Node::Or(0, 2),
+                    Node::Least(X, 3),
+                ],
+            ),
+            Call::Check(EXPRS, &[Node::Variable(X)]),
+            Call::Check(EXPRS, &[Node::Variable(X), Node::Not(0), Node::Least(X, 1)]),
+            Call::Check(
+                EXPRS,
+                &[Node::True, Node::Not(0), Node::Not(1), Node::Not(2)],
+            ),
         ];
-        assert_eq!(rt; answer(heap, 4, &calls[0..5])?, (0, 3));
-        assert_eq!(rt; answer(heap, 4, &calls[0..9])?, (0, 2));
-        assert_eq!(rt; answer(heap, 4, &calls)?, (0, 3));
-        Ok(())
-    }
-
-    #[test]
-    fn refusals_at_the_end(rt: HostRuntime) -> Result<(), Fail> {
-        let heap = rt.alloc();
-        assert_eq!(rt; answer(heap, 5, &[Call::Load(FAMILY)])?, (18, 0));
-        // A book of one state, into which the family does not come.
-        assert_eq!(rt; answer(heap, 0, &[Call::Load(FAMILY)])?, (0, 0));
+        let tables = [
+            (10, 0),
+            (11, 1),
+            (12, 1),
+            (13, 0),
+            (14, 4),
+            (15, 0),
+            (16, 0),
+        ];
+        let few_cells = run_with(rt.alloc(), 4, &calls, &mut Mask)?;
+        let few_places = run_with(rt.alloc(), 4, &calls, &mut Single)?;
+        for (log, last) in [(&few_cells, 18), (&few_places, 17)] {
+            assert_eq!(rt; log.replies.len(), 10);
+            for (reply, (number, value)) in log.replies.iter().skip(2).zip(&tables) {
+                assert_eq!(rt; without_table(reply), Told::Answer(*number, *value));
+            }
+            assert_eq!(rt;
+                log.replies.last().map(without_table),
+                Some(Told::Answer(last, 0))
+            );
+        }
         Ok(())
     }
 
     #[test]
     fn the_single_kind_has_one_product(rt: HostRuntime) -> Result<(), Fail> {
-        let heap = rt.alloc();
-        let mut kind = Single;
-        let mut cells = [kind.none(); 12];
         let calls = [
             Call::AddProduct(1),
             Call::Load(&FAMILY[32..80]),
+            Call::Close,
+            CHECK,
+            Call::Reopen,
             Call::AddProduct(2),
+            Call::Close,
+            CHECK,
         ];
-        let one = History {
-            states: 4,
-            calls: &calls[0..2],
-        };
-        let (first, _) = run(heap, one, &EXPRS, &RENNET_FOLLOWS, &mut kind, &mut cells)?;
-        assert_eq!(rt; first, (0, 1));
-        let two = History {
-            states: 4,
-            calls: &calls,
-        };
-        let (second, _) = run(heap, two, &EXPRS, &RENNET_FOLLOWS, &mut kind, &mut cells)?;
-        assert_eq!(rt; second, (17, 0));
+        let expected = [
+            Told::Answer(0, 0),
+            Told::Answer(0, 6),
+            Told::Done,
+            Told::Checked(1),
+            Told::Done,
+            Told::Answer(0, 1),
+            Told::Done,
+            Told::Answer(17, 0),
+        ];
+        let log = run_with(rt.alloc(), 4, &calls, &mut Single)?;
+        assert_told(&rt, &log, &expected);
         Ok(())
-    }
-
-    // Product i after one list of calls beside product j after another, with two kinds.
-    fn same(
-        heap: Global,
-        one: &[Call],
-        i: usize,
-        other: &[Call],
-        j: usize,
-    ) -> Result<Option<bool>, AllocError> {
-        let mut mask = Mask;
-        let mut range = Range;
-        let mut cells = [mask.none(); 12];
-        let mut others = [range.none(); 12];
-        let first = History {
-            states: 4,
-            calls: one,
-        };
-        let second = History {
-            states: 4,
-            calls: other,
-        };
-        compare(
-            heap,
-            &EXPRS,
-            &RENNET_FOLLOWS,
-            first,
-            i,
-            &mut mask,
-            &mut cells,
-            second,
-            j,
-            &mut range,
-            &mut others,
-        )
     }
 
     #[test]
     fn columns_are_the_products_own(rt: HostRuntime) -> Result<(), Fail> {
-        let heap = rt.alloc();
-        let given = [Call::Load(FAMILY)];
-        let turned = [Call::Load(TURNED)];
-        let dropped = [Call::Load(FAMILY), Call::Strike(rennet_with(2))];
-        for product in 0..4 {
-            assert_eq!(rt; same(heap, &given, product, &turned, product)?, Some(true));
+        let edited = run_with(rt.alloc(), 4, &EDITED, &mut Mask)?;
+        let calls = [Call::Load(TURNED), Call::Close, CHECK];
+        let turned = run_with(rt.alloc(), 4, &calls, &mut Range)?;
+        let larger = run_with(rt.alloc(), 3, &calls[1..], &mut Mask)?;
+        // Of one book: a position and a product, twice.
+        let in_one = [
+            ((12, 0), (17, 0), Some(true)),
+            ((12, 1), (17, 1), Some(false)),
+            ((12, 2), (17, 2), Some(true)),
+            ((12, 3), (17, 3), Some(true)),
+            ((12, 1), (22, 1), Some(true)),
+            ((17, 1), (22, 1), Some(false)),
+            ((12, 3), (22, 4), Some(true)),
+            ((12, 4), (22, 4), None),
+            ((12, 0), (13, 0), None),
+            ((0, 0), (12, 0), None),
+            ((12, 0), (23, 0), None),
+        ];
+        for ((position, product), (later, other), expected) in in_one {
+            let one = Column {
+                log: &edited,
+                position,
+                product,
+            };
+            let two = Column {
+                log: &edited,
+                position: later,
+                product: other,
+            };
+            assert_eq!(rt; one.equals(&two), expected);
         }
-        assert_eq!(rt; same(heap, &given, 0, &dropped, 0)?, Some(true));
-        assert_eq!(rt; same(heap, &given, 1, &dropped, 1)?, Some(false));
-        assert_eq!(rt; same(heap, &dropped, 1, &given, 3)?, Some(true));
-        assert_eq!(rt; same(heap, &given, 4, &given, 0)?, None);
+        // Of two books, in which the products have other numbers.
+        for (product, other) in [(0, 3), (1, 1), (2, 0), (3, 2)] {
+            let one = Column {
+                log: &edited,
+                position: 12,
+                product,
+            };
+            let two = Column {
+                log: &turned,
+                position: 2,
+                product: other,
+            };
+            let three = Column {
+                log: &larger,
+                position: 1,
+                product: other,
+            };
+            assert_eq!(rt; one.equals(&two), Some(true));
+            assert_eq!(rt; one.equals(&three), None);
+        }
         Ok(())
     }
 }

@@ -3,10 +3,11 @@
 // transitions as given and once sorted, with two kinds of product set; then without its third transition.
 #![tactic(auto)]
 
-use families::{ACCEPTED, Transition};
+use families::Transition;
 use formulas::{Expr, Node};
 use histories::calls::{Call, History};
-use histories::compare::compare;
+use histories::columns::Column;
+use histories::log::{Log, Reply};
 use histories::run::run;
 use product_sets::{Kind, Mask, Range};
 
@@ -17,6 +18,11 @@ const PRODUCTS: usize = 4;
 const ENTRIES: usize = 16;
 
 const CELLS: usize = ENTRIES * STATES;
+
+// Every history is ten additions, a call of its own, a closing and the check.
+const CALLS: usize = 13;
+
+const CHECK: usize = 12;
 
 const FILL: u8 = 0;
 
@@ -39,7 +45,7 @@ fn transition(source: u8, action: u8, target: u8, required: u16) -> Transition {
     }
 }
 
-fn step(source: u8, action: u8, target: u8, required: u16) -> Call<'static> {
+fn step<'b>(source: u8, action: u8, target: u8, required: u16) -> Call<'b> {
     Call::AddTransition(transition(source, action, target, required))
 }
 
@@ -73,93 +79,81 @@ fn rule() -> [Node; ENTRIES] {
     ]
 }
 
-// The answer and the row of the whole formula: a digit for each product, 1 where the formula holds in the state.
-fn print_row<K: Kind>(
-    rt: &HostRuntime,
-    answer: (u8, usize),
-    kind: &K,
-    cells: &[K::Set],
-) -> anyhow::Result<()> {
-    let (number, value) = answer;
-    if number != ACCEPTED {
-        println!(rt; "  refused {number} {value}")?;
-        return Ok(());
-    }
-    println!(rt; "  {value} products keep the rule in state 0")?;
-    for (state, set) in cells.iter().skip(CELLS - STATES).enumerate() {
+// What the check of a run was answered, and the row of the whole formula: a digit for each product, 1 where the
+// formula holds in the state.
+fn print_check(rt: &HostRuntime, log: &Log<'_, '_>) -> anyhow::Result<()> {
+    let table = match log.replies.get(CHECK) {
+        Some(Reply::Checked(value, table)) => {
+            println!(rt; "  {value} products keep the rule in state 0")?;
+            table
+        }
+        Some(Reply::Answer(number, value)) => {
+            println!(rt; "  refused {number} {value}")?;
+            return Ok(());
+        }
+        _ => return Ok(()),
+    };
+    for state in 0..STATES {
         print!(rt; "  state {state}: ")?;
-        // Products are numbers, and index nothing here.
         for product in 0..PRODUCTS {
-            print!(rt; "{}", u8::from(kind.has(*set, product)))?;
+            let holds = table.holds(ENTRIES - 1, state, product);
+            print!(rt; "{}", u8::from(holds))?;
         }
         println!(rt)?;
     }
     Ok(())
 }
 
-fn print_comparison(rt: &HostRuntime, product: usize, same: Option<bool>) -> anyhow::Result<()> {
-    let found = match same {
-        Some(true) => "the same column",
-        Some(false) => "another column",
-        None => "not comparable",
+// Runs a history with a kind of product set.
+fn print_run<'c, 'b, K: Kind>(
+    rt: &HostRuntime,
+    title: &str,
+    calls: &'c [Call<'b>],
+    kind: &mut K,
+) -> anyhow::Result<Log<'c, 'b>> {
+    let mut cells = [kind.none(); CELLS];
+    let history = History {
+        states: STATES,
+        calls,
     };
-    println!(rt; "  product {product}: {found}")?;
-    Ok(())
+    let log = run(rt.alloc(), history, kind, &mut cells)?;
+    println!(rt; "{title}")?;
+    print_check(rt, &log)?;
+    Ok(log)
 }
 
-// Two histories, each checked with a kind of its own, and the columns of each product compared.
-fn print_both(
+// The columns of each product in the checks of two runs, compared.
+fn print_comparison(
     rt: &HostRuntime,
-    first: History<'_, '_>,
-    second: History<'_, '_>,
-    title: &str,
+    log: &Log<'_, '_>,
+    given: &Log<'_, '_>,
 ) -> anyhow::Result<()> {
-    let exprs = [Expr::True];
-    let nodes = rule();
-    let mut mask = Mask;
-    let mut masks = [mask.none(); CELLS];
-    let mut range = Range;
-    let mut ranges = [range.none(); CELLS];
-    let (answer, _) = run(rt.alloc(), second, &exprs, &nodes, &mut range, &mut ranges)?;
-    println!(rt; "{title}, with the range kind")?;
-    print_row(rt, answer, &range, &ranges)?;
     println!(rt; "compared with the given order")?;
     for product in 0..PRODUCTS {
-        let same = compare(
-            rt.alloc(),
-            &exprs,
-            &nodes,
-            first,
+        let column = Column {
+            log,
+            position: CHECK,
             product,
-            &mut mask,
-            &mut masks,
-            second,
+        };
+        let as_given = Column {
+            log: given,
+            position: CHECK,
             product,
-            &mut range,
-            &mut ranges,
-        )?;
-        print_comparison(rt, product, same)?;
+        };
+        let found = match column.equals(&as_given) {
+            Some(true) => "the same column",
+            Some(false) => "another column",
+            None => "not comparable",
+        };
+        println!(rt; "  product {product}: {found}")?;
     }
     Ok(())
 }
 
-fn print_given(rt: &HostRuntime, given: History<'_, '_>) -> anyhow::Result<()> {
-    let mut mask = Mask;
-    let mut masks = [mask.none(); CELLS];
-    let (answer, _) = run(
-        rt.alloc(),
-        given,
-        &[Expr::True],
-        &rule(),
-        &mut mask,
-        &mut masks,
-    )?;
-    println!(rt; "transitions in the given order, with the mask kind")?;
-    print_row(rt, answer, &mask, &masks)
-}
-
 fn main(rt: HostRuntime) -> anyhow::Result<()> {
-    let given = [
+    let exprs = [Expr::True];
+    let nodes = rule();
+    let given: [Call; CALLS] = [
         Call::AddProduct(1),
         Call::AddProduct(2),
         Call::AddProduct(3),
@@ -171,8 +165,10 @@ fn main(rt: HostRuntime) -> anyhow::Result<()> {
         step(2, CUT, 0, 2),
         step(3, CUT, 0, 0),
         Call::Strike(transition(0, FILL, 0, 0)),
+        Call::Close,
+        Call::Check(&exprs, &nodes),
     ];
-    let sorted = [
+    let sorted: [Call; CALLS] = [
         Call::AddProduct(1),
         Call::AddProduct(2),
         Call::AddProduct(3),
@@ -184,28 +180,30 @@ fn main(rt: HostRuntime) -> anyhow::Result<()> {
         step(1, RENNET, 2, 2),
         step(2, CUT, 0, 2),
         Call::Close,
+        Call::Close,
+        Call::Check(&exprs, &nodes),
     ];
     let mut lost = given;
     lost[10] = Call::Strike(transition(1, RENNET, 2, 2));
-    let history = History {
-        states: STATES,
-        calls: &given,
-    };
     println!(rt; "rule: no cut follows the rennet directly")?;
-    print_given(&rt, history)?;
-    let by_condition = History {
-        states: STATES,
-        calls: &sorted,
-    };
-    print_both(
+    let first = print_run(
         &rt,
-        history,
-        by_condition,
-        "transitions sorted by their condition",
+        "transitions in the given order, with the mask kind",
+        &given,
+        &mut Mask,
     )?;
-    let without = History {
-        states: STATES,
-        calls: &lost,
-    };
-    print_both(&rt, history, without, "the third transition lost")
+    let second = print_run(
+        &rt,
+        "transitions sorted by their condition, with the range kind",
+        &sorted,
+        &mut Range,
+    )?;
+    print_comparison(&rt, &second, &first)?;
+    let third = print_run(
+        &rt,
+        "the third transition lost, with the range kind",
+        &lost,
+        &mut Range,
+    )?;
+    print_comparison(&rt, &third, &first)
 }
