@@ -15,7 +15,8 @@ use Rattle.semantics.specs.Entries.{no_states}
 use Rattle.semantics.proofs.Finite.{tabulate, at, tabulated}
 use Rattle.semantics.proofs.Decide.{own, right}
 use Rattle.words.specs.Words.{WordList, number}
-use Rattle.grammar.specs.Grammar.{Tok, Tree}
+use Rattle.lexer.specs.Tokens.{Tok}
+use Rattle.grammar.specs.Grammar.{Tree}
 use Rattle.grammar.specs.declared.Level.TheVariants.{Formula as formula}
 use Rattle.grammar.specs.Machine as machine
 use Rattle.grammar.specs.Machine.{good, fail, whole, walk}
@@ -23,7 +24,6 @@ use Rattle.grammar.proofs.Prefix.{offends}
 use Rattle.reader.specs.Numbering.{Tables, none_entered, last}
 use Rattle.reader.specs.Reading.{place_of}
 use Rattle.reader.specs.Outcome.{numbering, Fit, Formed, long_text, no_token, no_formula, unknown_name, too_many, accepted}
-use Rattle.reader.proofs.Texts.{tokens_of, no_token_at}
 use Rattle.reader_laws.specs.Results.{formula_of}
 use Rattle.reader_laws.proofs.Extends.{same}
 use Rattle.reader_laws.proofs.Back.{formula_back}
@@ -153,12 +153,12 @@ module _ (F : Family) (some : 0 < F.states) (actions features : List ℕ) (av fv
     walk_right : (ts : List Tok) → LexesAs text 0 (reading.tokens ts) → (o : machine.Outcome) → walk (whole formula []) [] ts ≡ o
         → Right (on_walk F av fv text o)
     walk_right ts l (good ps) e =
-        tree_right (tree_in ps) (record { fit = fit; tokens = ts; lexed = tokens_of text (omega arith) l; derived = derived ts ps e })
-    walk_right ts l (fail rest) e = unread (no_formula av fv ts rest fit (tokens_of text (omega arith) l) (offends ts rest e)) (λ z. omega arith)
+        tree_right (tree_in ps) (record { fit = fit; tokens = ts; lexed = l; derived = derived ts ps e })
+    walk_right ts l (fail rest) e = unread (no_formula av fv ts rest fit l (offends ts rest e)) (λ z. omega arith)
 
     lexed_right : (x : Lexed) → LexesAs text 0 x → Right (on_lexed F av fv text x)
     lexed_right (reading.tokens ts) l = walk_right ts l (walk (whole formula []) [] ts) refl
-    lexed_right (reading.no_token p) l = unread (no_token av fv p fit (no_token_at text l)) (λ z. omega arith)
+    lexed_right (reading.no_token p) l = unread (no_token av fv p fit l) (λ z. omega arith)
 
   -- Whatever the text, the family and the names are, the outcome that is computed is the answer.
   pub answers : Answer F actions features text (answer F av fv text)

@@ -1,10 +1,10 @@
 -- The machine reads each phrase and builds its tree.
 use Rattle.std.proofs.Common.{◌≡◌, ℕ, List, [], ◌∷◌, ◌++◌, refl, ap, ◌∙◌, append_assoc}
-use Rattle.grammar.specs.Grammar.{Tok, tok, Modality, diamond, box, Fixpoint, least, greatest, Tree, conjunction, disjunction, opening, closing, word, Ending, free, bound, UnitOf, is_true, is_false, is_not, is_parens, is_feature, is_variable, is_modal, is_fixpoint, AndPartOf, one_unit, more_units, PhraseOf, one_part, more_parts}
+use Rattle.grammar.specs.Grammar.{Modality, diamond, box, Fixpoint, least, greatest, Tree, conjunction, disjunction, opening, closing, word, Ending, free, bound, UnitOf, is_true, is_false, is_not, is_parens, is_feature, is_variable, is_modal, is_fixpoint, AndPartOf, one_unit, more_units, PhraseOf, one_part, more_parts}
 use Rattle.grammar.specs.declared.Level.{Level}
 use Rattle.grammar.specs.declared.Level.TheVariants.{Formula as formula, Expression as expression}
 use Rattle.grammar.specs.Machine.{Part, a_var, a_name, a_tree, close, inner_of, Item, unit, and_tail, or_tail, expect, make, make_not, make_both, make_modal, make_fixpoint, whole, walk, NotNext, Stops, Ended}
-use Rattle.lexer.specs.Tokens.{name, variable, sign}
+use Rattle.lexer.specs.Tokens.{name, variable, sign, Tok, tok}
 use Rattle.lexer.specs.declared.Sign.TheVariants.{And, Or, Close, Bar, Dot}
 
 -- an operator that does not come next is passed over

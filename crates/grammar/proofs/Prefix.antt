@@ -1,12 +1,12 @@
 -- Where the machine stops is the first token that no formula could have there; and a list of tokens has one tree at most.
 use Rattle.std.proofs.Common.{◌≡◌, ℕ, ◌⊎◌, List, [], ◌∷◌, ◌++◌, sym, refl, ap, ◌∙◌, subst, inl, inr, ⊎_elim, append_assoc, append-nil, arith}
-use Rattle.grammar.specs.Grammar.{Tok, tok, Tree, PhraseOf, FormulaOf}
+use Rattle.grammar.specs.Grammar.{Tree, PhraseOf, FormulaOf}
 use Rattle.grammar.specs.declared.Level.TheVariants.{Formula as formula}
 use Rattle.grammar.specs.Machine.{Part, a_tree, Inner, bar, greater, bracket, close, dot, sign_of, Item, unit, and_tail, or_tail, expect, a_variable, an_action, make, whole, Next, goes, dead, step, ends, Outcome, good, fail, follow, walk, Stops}
 use Rattle.grammar.specs.Viable.{IsFormula, Refuses, Offends, Decided, Unambiguous, OneOffence}
 use Rattle.grammar.proofs.Complete.{past_and, past_or, past_make, stops_ended, phrase_read}
 use Rattle.grammar.proofs.Sound.{bad, phrase_from}
-use Rattle.lexer.specs.Tokens.{Sym, name, variable, sign}
+use Rattle.lexer.specs.Tokens.{Sym, name, variable, sign, Tok, tok}
 use Rattle.lexer.specs.declared.Sign.TheVariants.{True}
 
 abbrev Halts : List Item → List Part → List Tok → Type 0

@@ -1,12 +1,12 @@
 -- What the machine reads is a formula, and it builds its tree.
 use Rattle.std.proofs.Common.{◌≡◌, ℕ, zero, suc, ◌≤◌, Bool, true, false, cond, List, [], ◌∷◌, ◌++◌, length, sym, refl, ap, ◌∙◌, subst, append_assoc, append-nil, arith, length-append}
-use Rattle.grammar.specs.Grammar.{Tok, tok, Modality, diamond, box, Fixpoint, least, greatest, Tree, bottom, top, negation, conjunction, disjunction, feature, var, modal, fixpoint, opening, closing, word, Ending, free, bound, UnitOf, is_true, is_false, is_not, is_parens, is_feature, is_variable, is_modal, is_fixpoint, AndPartOf, one_unit, more_units, PhraseOf, one_part, more_parts}
+use Rattle.grammar.specs.Grammar.{Modality, diamond, box, Fixpoint, least, greatest, Tree, bottom, top, negation, conjunction, disjunction, feature, var, modal, fixpoint, opening, closing, word, Ending, free, bound, UnitOf, is_true, is_false, is_not, is_parens, is_feature, is_variable, is_modal, is_fixpoint, AndPartOf, one_unit, more_units, PhraseOf, one_part, more_parts}
 use Rattle.grammar.specs.declared.Level.{Level}
 use Rattle.grammar.specs.declared.Level.TheVariants.{Formula as formula, Expression as expression}
 use Rattle.grammar.specs.Machine.{is, Part, a_var, a_name, a_tree, Inner, bar, close, dot, sign_of, inner_of, Item, unit, and_tail, or_tail, expect, a_variable, an_action, make_not, make_both, make_modal, make_fixpoint, take, skip, stop, whole, at_sign, at_modality, at_fixpoint, Outcome, good, fail, dead, after, step, follow, walk, NotNext, Stops, Any, Ended}
 use Rattle.grammar.proofs.Signs.{is_sign}
 use Rattle.grammar.proofs.Complete.{past_make}
-use Rattle.lexer.specs.Tokens.{Sym, name, variable, sign}
+use Rattle.lexer.specs.Tokens.{Sym, name, variable, sign, Tok, tok}
 use Rattle.lexer.specs.declared.Sign.{Sign}
 use Rattle.lexer.specs.declared.Sign.TheVariants.{Mu, Nu, True, False, Not, And, Or, Bar, Less, Greater, LeftBracket, RightBracket, Open, Close, Dot}
 

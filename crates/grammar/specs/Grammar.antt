@@ -1,14 +1,10 @@
 -- The grammar: which lists of tokens are formulas and expressions, and the tree of each.
 use Rattle.std.specs.Prelude.{ℕ, List, [], ◌∷◌, ◌++◌}
-use Rattle.lexer.specs.Tokens.{Sym, name, variable, sign}
+use Rattle.lexer.specs.Tokens.{Tok, tok, name, variable, sign}
 use Rattle.lexer.specs.declared.Sign.{Sign}
 use Rattle.lexer.specs.declared.Sign.TheVariants.{Mu, Nu, True, False, Not, And, Or, Bar, Less, Greater, LeftBracket, RightBracket, Open, Close, Dot}
 use Rattle.grammar.specs.declared.Level.{Level}
 use Rattle.grammar.specs.declared.Level.TheVariants.{Formula as formula, Expression as expression}
-
--- A token with its place in the text.
-pub data Tok : Type 0 where
-  tok : Sym → ℕ → Tok
 
 pub data Modality : Type 0 where
   diamond box : Modality

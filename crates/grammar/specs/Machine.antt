@@ -1,9 +1,9 @@
 -- A stack machine that reads a formula token by token and builds its tree. The contracts of the reader's functions say by it where they stop.
 use Rattle.std.specs.Prelude.{◌≡◌, ℕ, Bool, false, cond, List, [], ◌∷◌, ◌++◌, ◌==◌}
-use Rattle.grammar.specs.Grammar.{Tok, tok, Modality, diamond, box, Fixpoint, least, greatest, Tree, bottom, top, negation, disjunction, conjunction, feature, var, modal, fixpoint, Ending, free, bound}
+use Rattle.grammar.specs.Grammar.{Modality, diamond, box, Fixpoint, least, greatest, Tree, bottom, top, negation, disjunction, conjunction, feature, var, modal, fixpoint, Ending, free, bound}
 use Rattle.grammar.specs.declared.Level.{Level}
 use Rattle.grammar.specs.declared.Level.TheVariants.{Formula as formula, Expression as expression}
-use Rattle.lexer.specs.Tokens.{Sym, name, variable, sign}
+use Rattle.lexer.specs.Tokens.{Sym, name, variable, sign, Tok, tok}
 use Rattle.lexer.specs.declared.Sign.{Sign}
 use Rattle.lexer.specs.declared.Sign.TheVariants.{Mu, Nu, True, False, Not, And, Or, Bar, Less, Greater, LeftBracket, RightBracket, Open, Close, Dot}
 

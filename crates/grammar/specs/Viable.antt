@@ -1,6 +1,7 @@
 -- Which token of a list is the first that no formula could have there.
 use Rattle.std.specs.Prelude.{◌≡◌, ◌⊎◌, List, [], ◌∷◌, ◌++◌}
-use Rattle.grammar.specs.Grammar.{Tok, Tree, FormulaOf}
+use Rattle.lexer.specs.Tokens.{Tok}
+use Rattle.grammar.specs.Grammar.{Tree, FormulaOf}
 
 abbrev pub IsFormula : List Tok → Type 0
 IsFormula ts = (f : Tree) × FormulaOf ts f

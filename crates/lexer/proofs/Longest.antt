@@ -289,7 +289,7 @@ module _ (bs : List ℕ) (at : ℕ) (lt : at < length bs) (low : is_ascii_lowerc
 
 abbrev Here : List ℕ → ℕ → Seen → Type 0
 Here bs at (found s p j) = (p ≡ at) × Longest bs at s × (j ≡ at + length (spell s))
-Here bs at (end p) = ⊥
+Here bs at end = ⊥
 Here bs at (bad p) = (p ≡ at) × Bad bs at
 
 first_law : (bs : List ℕ) (at : ℕ) → at < length bs → Here bs at (first_at bs at)
@@ -329,12 +329,12 @@ no_space bs i lt e =
 
 here_law : (bs : List ℕ) (i at : ℕ) → Spaces bs i at → at < length bs → (get_or bs at 0 ≡ 32 → ⊥) → (s : Seen) → Here bs at s → Lawful bs i s
 here_law bs i at sp lt ns (found s p j) h = let e = sym h.0 in (subst (Spaces bs i) e sp, subst (λ p. Longest bs p s) e h.1, h.2 ∙ ap (λ n. n + length (spell s)) e)
-here_law bs i at sp lt ns (end p) h = absurd h
+here_law bs i at sp lt ns end h = absurd h
 here_law bs i at sp lt ns (bad p) h = let e = sym h.0 in (subst (Spaces bs i) e sp, subst (λ p. p < length bs) e lt, subst (λ p. get_or bs p 0 ≡ 32 → ⊥) e ns, subst (Bad bs) e h.1)
 
 pub law : (bs : List ℕ) (i : ℕ) → Lawful bs i (cut_at bs i)
 law bs i = go (ltb (after_spaces bs i) (length bs)) refl
   where
-    go : (b : Bool) → ltb (after_spaces bs i) (length bs) ≡ b → Lawful bs i (cond b (first_at bs (after_spaces bs i)) (end (after_spaces bs i)))
+    go : (b : Bool) → ltb (after_spaces bs i) (length bs) ≡ b → Lawful bs i (cond b (first_at bs (after_spaces bs i)) end)
     go true e = let lt = ltb-true (after_spaces bs i) (length bs) e in here_law bs i (after_spaces bs i) (spaces bs i) lt (no_space bs i lt) (first_at bs (after_spaces bs i)) (first_law bs (after_spaces bs i) lt)
     go false e = λ le. let n : after_spaces bs i ≡ length bs = omega (arith, ltb-false (after_spaces bs i) (length bs) e, prefix_len-le-length space (drop i bs), length-drop i bs) in subst (Spaces bs i) n (spaces bs i)

@@ -1,44 +1,44 @@
 -- How the next token of a text is found.
-use Rattle.std.specs.Prelude.{◌≡◌, ℕ, ◌+◌, ◌-◌, ◌<◌, ◌≤◌, Bool, cond, ◌&&◌, List, length, drop, codes, ◌==◌, ◌≢◌, nat_lt, slice_index, Ok, Err, Result}
+use Rattle.std.specs.Prelude.{◌≡◌, ℕ, ◌+◌, ◌-◌, ◌<◌, ◌≤◌, Bool, cond, ◌&&◌, List, length, drop, codes, Option, Some, None, ◌==◌, ◌≢◌, nat_lt, slice_index, Ok, Err, Result}
 use Rattle.std.specs.Char.{is_ascii_lowercase, is_ascii_uppercase}
 use Rattle.std.specs.Str.{bytes_eq}
 use Rattle.std.specs.List.{prefix_len, between}
-use Rattle.lexer.specs.Tokens.{Sym, name, variable, sign, in_name, spell, Spaces, Longest, Bad}
+use Rattle.lexer.specs.Tokens.{Sym, Tok, tok, name, variable, sign, in_name, spell, Spaces, Longest, Bad}
 use Rattle.lexer.specs.declared.Token.{Token}
 use Rattle.lexer.specs.declared.Token.TheVariants as tk
 use Rattle.lexer.specs.declared.Found.{Found}
-use Rattle.lexer.specs.declared.Stop.{Stop}
-use Rattle.lexer.specs.declared.Stop.TheVariants as st
+use Rattle.lexer.specs.declared.NoToken.{NoToken}
 use Rattle.lexer.specs.declared.Sign.{Sign}
 use Rattle.lexer.specs.declared.Sign.TheVariants.{Mu, Nu, True, False, Not, And, Or, Bar, Less, Greater, LeftBracket, RightBracket, Open, Close, Dot}
 
 -- What comes next in a text: a token, its place and where the text goes on; the end; or no token.
 pub data Seen : Type 0 where
   found : Sym → ℕ → ℕ → Seen
-  end : ℕ → Seen
+  end : Seen
   bad : ℕ → Seen
 
+-- What a token is, and where it stands.
 abbrev pub sym_of : Token → Sym
 sym_of (tk.Name bs p) = name bs.now
-sym_of (tk.Variable v) = variable v
-sym_of (tk.Sign s) = sign s
+sym_of (tk.Variable v p) = variable v
+sym_of (tk.Sign s p) = sign s
 
-abbrev pub seen : Result Found Stop → Seen
-seen (Ok f) = found (sym_of f.token) f.start f.end
-seen (Err (st.End p)) = end p
-seen (Err (st.Bad p)) = bad p
+abbrev pub place_of : Token → ℕ
+place_of (tk.Name bs p) = p
+place_of (tk.Variable v p) = p
+place_of (tk.Sign s p) = p
 
--- A name has its place.
-abbrev pub Placed : Token → ℕ → Type 0
-Placed (tk.Name bs p) q = p ≡ q
-Placed (tk.Variable v) q = Unit {0}
-Placed (tk.Sign s) q = Unit {0}
+abbrev pub tok_of : Token → Tok
+tok_of t = tok (sym_of t) (place_of t)
 
--- A token starts no sooner than asked for, has a byte and ends within the n bytes; the end is that of the text.
-abbrev pub Onward : Result Found Stop → ℕ → ℕ → Type 0
-Onward (Ok f) i n = (i ≤ f.start) × (f.start < f.end) × (f.end ≤ n) × Placed f.token f.start
-Onward (Err (st.End p)) i n = (i ≤ p) × (i ≤ n → p ≡ n)
-Onward (Err (st.Bad p)) i n = (i ≤ p) × (p < n)
+abbrev pub seen : Result (Option Found) NoToken → Seen
+seen (Ok (Some f)) = found (sym_of f.token) (place_of f.token) f.end
+seen (Ok None) = end
+seen (Err e) = bad e.0
+
+-- A token that is asked for at a place ends past it and within the n bytes.
+abbrev pub Onward : ℕ → ℕ → Found → Type 0
+Onward i n f = (i < f.end) × (f.end ≤ n)
 
 abbrev pub space : ℕ → Bool
 space b = b == 32
@@ -77,10 +77,10 @@ first_at bs at =
 
 -- The token from the place i on, past spaces.
 abbrev pub cut_at : List ℕ → ℕ → Seen
-cut_at bs i = cond (nat_lt (after_spaces bs i) (length bs)) (first_at bs (after_spaces bs i)) (end (after_spaces bs i))
+cut_at bs i = cond (nat_lt (after_spaces bs i) (length bs)) (first_at bs (after_spaces bs i)) end
 
 -- What is found is the longest token past the spaces; at a bad place no token begins, or a name that is too long.
 abbrev pub Lawful : List ℕ → ℕ → Seen → Type 0
 Lawful bs i (found s p j) = Spaces bs i p × Longest bs p s × (j ≡ p + length (spell s))
-Lawful bs i (end p) = i ≤ length bs → Spaces bs i (length bs)
+Lawful bs i end = i ≤ length bs → Spaces bs i (length bs)
 Lawful bs i (bad p) = Spaces bs i p × (p < length bs) × (slice_index bs p ≢ 32) × Bad bs p

@@ -1,2 +1,3 @@
 pub mod Tokens
 pub mod Cuts
+pub mod Texts

@@ -30,6 +30,10 @@ pub data Sym : Type 0 where
   variable : ℕ → Sym
   sign : Sign → Sym
 
+-- A token with its place in the text.
+pub data Tok : Type 0 where
+  tok : Sym → ℕ → Tok
+
 abbrev pub spelling : Sign → List ℕ
 spelling Mu = codes "mu"
 spelling Nu = codes "nu"

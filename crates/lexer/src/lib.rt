@@ -1,14 +1,18 @@
-// Cuts a formula text into tokens.
+//! Cuts a formula text into tokens.
 #![tactic(auto)]
 
-ghost use Rattle.std.specs.Prelude.{◌≡◌, ℕ, ◌+◌, ◌<◌, ◌≤◌, T, ◌↔◌, length, drop, slice_index};
-ghost use Rattle.lexer.specs.Tokens.{Name, NoWord, in_name};
-ghost use Rattle.lexer.specs.Cuts.{after_spaces, after_name, word_of, sym_of, seen, first_at, cut_at, Onward, Placed, Lawful};
+mod tokens;
+
+ghost use Rattle.std.specs.Prelude.{◌≡◌, ℕ, ◌+◌, ◌<◌, ◌≤◌, ◌↔◌, IsTrue, IfOk, IfSome, length, drop, slice_index};
+ghost use Rattle.lexer.specs.Tokens.{Name, NoWord, in_name, tok};
+ghost use Rattle.lexer.specs.Cuts.{after_spaces, after_name, word_of, tok_of, place_of, seen, first_at, Onward, Lawful};
+
+pub use tokens::{LONGEST_TEXT, Text, Tokens};
 
 // How many bytes a name has at most.
 const LONGEST_NAME: usize = 12;
 
-// The tokens that are always spelled alike: `mu nu true false ! && || | < > [ ] ( ) .`
+/// The tokens that are always spelled alike: `mu nu true false ! && || | < > [ ] ( ) .`
 #[derive(Clone, Copy, PartialEq, Eq)]
 pub enum Sign {
     Mu,
@@ -28,29 +32,29 @@ pub enum Sign {
     Dot,
 }
 
-// A token. A name is the part of the text that spells it, with its place; a variable (the makers' letter) is
-// numbered 0 to 25 for A to Z.
+/// A token with its place, which is that of its first byte in the text. A name is the part of the text that spells it; a
+/// variable (the makers' letter) is numbered 0 to 25 for A to Z.
 #[derive(Clone, Copy)]
-pub enum Token<'a> {
-    Name(&'a [u8], usize),
-    Variable(u8),
-    Sign(Sign),
+pub enum Token<'t> {
+    Name(&'t [u8], usize),
+    Variable(u8, usize),
+    Sign(Sign, usize),
 }
 
-// A token that was found in a text, from its place up to the place where the text goes on.
-#[derive(Clone, Copy)]
-pub struct Found<'a> {
-    pub token: Token<'a>,
-    pub start: usize,
-    pub end: usize,
+impl<'t> Token<'t> {
+    /// The place of the token's first byte.
+    pub fn place(self) -> usize
+        ensures { result ≡ place_of self.entry }
+    {
+        match self {
+            Token::Name(_, place) | Token::Variable(_, place) | Token::Sign(_, place) => place,
+        }
+    }
 }
 
-// Why no token was found: the text ends, or no token begins at the next byte. Each has its place.
+/// The place of a byte with which no token begins, or where a name begins that is too long.
 #[derive(Clone, Copy, Debug, PartialEq, Eq)]
-pub enum Stop {
-    End(usize),
-    Bad(usize),
-}
+pub struct NoToken(pub usize);
 
 // The bytes from a place on: none past the end.
 fn rest(text: &[u8], from: usize) -> &[u8]
@@ -86,15 +90,14 @@ fn past_name(text: &[u8], from: usize) -> usize
 }
 
 // A run of small letters and digits as a token: one of the four words, or a name.
-fn word<'a>(bytes: &'a [u8], place: usize) -> Token<'a>
-    ensures value { sym_of result ≡ word_of bytes.now }
-    ensures place { Placed result place }
+fn word(bytes: &[u8], place: usize) -> Token<'_>
+    ensures { tok_of result ≡ tok (word_of bytes.now) place }
 {
     match bytes {
-        b"mu" => Token::Sign(Sign::Mu),
-        b"nu" => Token::Sign(Sign::Nu),
-        b"true" => Token::Sign(Sign::True),
-        b"false" => Token::Sign(Sign::False),
+        b"mu" => Token::Sign(Sign::Mu, place),
+        b"nu" => Token::Sign(Sign::Nu, place),
+        b"true" => Token::Sign(Sign::True, place),
+        b"false" => Token::Sign(Sign::False, place),
         _ => Token::Name(bytes, place),
     }
 }
@@ -106,59 +109,61 @@ fn byte_at(text: &[u8], at: usize) -> u8
     text.get(at).copied().unwrap_or(0)
 }
 
+// A token that was found, and the place where the text goes on.
+#[derive(Clone, Copy)]
+struct Found<'t> {
+    token: Token<'t>,
+    end: usize,
+}
+
 // The longest token at a place where a byte stands.
-fn first_token<'a>(text: &'a [u8], at: usize) -> Result<Found<'a>, Stop>
+fn first_token(text: &[u8], at: usize) -> Result<Option<Found<'_>>, NoToken>
     requires { at < length text.now }
     ensures value { seen result ≡ first_at text.now at }
-    ensures onward { Onward result at (length text.now) }
+    ensures onward { IfOk result (λ next. IfSome next (Onward at (length text.now))) }
 {
     let next = byte_at(text, at + 1) as char;
     let (token, end) = match text[at] as char {
         'a'..='z' => {
             let end = past_name(text, at);
             if end - at > LONGEST_NAME {
-                return Err(Stop::Bad(at));
+                return Err(NoToken(at));
             }
             (word(&text[at..end], at), end)
         }
-        'A'..='Z' => (Token::Variable(text[at] - b'A'), at + 1),
-        '&' if next == '&' => (Token::Sign(Sign::And), at + 2),
-        '|' if next == '|' => (Token::Sign(Sign::Or), at + 2),
-        '|' => (Token::Sign(Sign::Bar), at + 1),
-        '!' => (Token::Sign(Sign::Not), at + 1),
-        '<' => (Token::Sign(Sign::Less), at + 1),
-        '>' => (Token::Sign(Sign::Greater), at + 1),
-        '[' => (Token::Sign(Sign::LeftBracket), at + 1),
-        ']' => (Token::Sign(Sign::RightBracket), at + 1),
-        '(' => (Token::Sign(Sign::Open), at + 1),
-        ')' => (Token::Sign(Sign::Close), at + 1),
-        '.' => (Token::Sign(Sign::Dot), at + 1),
-        _ => return Err(Stop::Bad(at)),
+        'A'..='Z' => (Token::Variable(text[at] - b'A', at), at + 1),
+        '&' if next == '&' => (Token::Sign(Sign::And, at), at + 2),
+        '|' if next == '|' => (Token::Sign(Sign::Or, at), at + 2),
+        '|' => (Token::Sign(Sign::Bar, at), at + 1),
+        '!' => (Token::Sign(Sign::Not, at), at + 1),
+        '<' => (Token::Sign(Sign::Less, at), at + 1),
+        '>' => (Token::Sign(Sign::Greater, at), at + 1),
+        '[' => (Token::Sign(Sign::LeftBracket, at), at + 1),
+        ']' => (Token::Sign(Sign::RightBracket, at), at + 1),
+        '(' => (Token::Sign(Sign::Open, at), at + 1),
+        ')' => (Token::Sign(Sign::Close, at), at + 1),
+        '.' => (Token::Sign(Sign::Dot, at), at + 1),
+        _ => return Err(NoToken(at)),
     };
-    Ok(Found {
-        token,
-        start: at,
-        end,
-    })
+    Ok(Some(Found { token, end }))
 }
 
-// The token that comes next from a place on, with spaces skipped.
-pub fn next_token<'a>(text: &'a [u8], from: usize) -> Result<Found<'a>, Stop>
+// The token that comes next from a place on, with spaces skipped, if the text does not end there.
+fn next_token(text: &[u8], from: usize) -> Result<Option<Found<'_>>, NoToken>
     ensures longest { Lawful text.now from (seen result) }
-    ensures value { seen result ≡ cut_at text.now from }
-    ensures onward { Onward result from (length text.now) }
+    ensures onward { IfOk result (λ next. IfSome next (Onward from (length text.now))) }
 {
     let at = past_spaces(text, from);
     if at < text.len() {
         first_token(text, at)
     } else {
-        Err(Stop::End(at))
+        Ok(None)
     }
 }
 
-// Whether bytes are a name.
+/// Whether bytes are a name: 1 to 12 small letters and digits, a small letter first, and none of the four words.
 pub fn is_name(bytes: &[u8]) -> bool
-    ensures { T result ↔ Name bytes.now }
+    ensures { IsTrue result ↔ Name bytes.now }
 {
     bytes.len() <= LONGEST_NAME
         && past_name(bytes, 0) == bytes.len()
@@ -167,7 +172,7 @@ pub fn is_name(bytes: &[u8]) -> bool
 }
 
 fn is_no_word(bytes: &[u8]) -> bool
-    ensures { T result ↔ NoWord bytes.now }
+    ensures { IsTrue result ↔ NoWord bytes.now }
 {
     matches!(word(bytes, 0), Token::Name(_, _))
 }

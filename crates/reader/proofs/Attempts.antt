@@ -5,12 +5,13 @@ use Rattle.formulas.specs.declared.Expr.{Expr}
 use Rattle.formulas.specs.declared.Node.{Node}
 use Rattle.formulas.specs.declared.Expr.TheVariants as ex
 use Rattle.formulas.specs.declared.Node.TheVariants as nd
-use Rattle.grammar.specs.Grammar.{Tok, Tree, FormulaOf}
-use Rattle.reader.specs.Reading.{Lexes, Source, filled}
-use Rattle.reader.specs.Outcome.{numbering, Fit, Formed, Lexed, Tried, no_token, no_formula, unknown_name, too_many, accepted, Attempted, Parsed, offends, parsed, Judged}
+use Rattle.lexer.specs.Tokens.{Tok}
+use Rattle.grammar.specs.Grammar.{Tree, FormulaOf}
+use Rattle.lexer.specs.Texts.{TokensOf}
+use Rattle.reader.specs.Reading.{Source, filled}
+use Rattle.reader.specs.Outcome.{numbering, Fit, Formed, Tried, no_formula, unknown_name, too_many, accepted, Attempted, Parsed, offends, parsed, Judged}
 use Rattle.reader.specs.declared.refusals.Refusal.{Refusal}
 use Rattle.reader.specs.declared.refusals.Refusal.TheVariants as rf
-use Rattle.reader.proofs.Texts.{tokens_of, no_token_at}
 
 take_past : {X : Type 0} (xs ys : List X) (k n : ℕ) → n ≡ length xs + k → take n (xs ++ ys) ≡ xs ++ take k ys
 take_past [] ys k n e = let f : n ≡ k = omega arith in ap (λ i. take i ys) f
@@ -22,21 +23,11 @@ filled_fits n d xs le = take_past xs (replicate n d) (n - length xs) n (omega ar
 
 module _ (text actions features : List ℕ) (n m : ℕ) (av fv : List (List ℕ)) (fit : Fit text actions features av fv) where
   abbrev pub source : Source
-  source = record { text = text; actions = actions; features = features; action_names = av; feature_names = fv; known_actions = fit.action_list; known_features = fit.feature_list; nodes = m; exprs = n }
+  source = record { action_names = av; feature_names = fv; nodes = m; exprs = n }
 
-  -- a text that does not fall into tokens
-  pub untokened : (es : List Expr) (ns : List Node) (r : Refusal) → Lexed text (Err r) → Attempted text actions features n m es ns (Err r)
-  untokened es ns rf.ShortTable l = absurd l
-  untokened es ns rf.LongText l = absurd l
-  untokened es ns rf.WordList l = absurd l
-  untokened es ns (rf.NoToken p) l = no_token av fv p fit (no_token_at text l)
-  untokened es ns (rf.NoFormula p) l = absurd l
-  untokened es ns (rf.UnknownName p) l = absurd l
-  untokened es ns rf.TooManyEntries l = absurd l
-
-  module _ (ts : List Tok) (lexed : Lexes text 0 ts) (room : (64 ≤ n) × (64 ≤ m)) where
+  module _ (ts : List Tok) (lexed : TokensOf text 0 ts) (room : (64 ≤ n) × (64 ≤ m)) where
     formed : (f : Tree) → FormulaOf ts f → Formed text actions features av fv f
-    formed f d = record { fit = fit; tokens = ts; lexed = tokens_of text (omega arith) lexed; derived = d }
+    formed f d = record { fit = fit; tokens = ts; lexed = lexed; derived = d }
 
     judged : (es : List Expr) (ns : List Node) (f : Tree) → FormulaOf ts f → es ≡ filled n ex.False (numbering av fv f).exprs → ns ≡ filled m nd.False (numbering av fv f).nodes → (r : Result ℕ Refusal) → Judged (numbering av fv f) r → Attempted text actions features n m es ns r
     judged es ns f d e i (Ok k) j =
@@ -51,6 +42,6 @@ module _ (text actions features : List ℕ) (n m : ℕ) (av fv : List (List ℕ)
     judged es ns f d e i (Err (rf.UnknownName p)) j = unknown_name av fv f p j.0 (formed f d) j.1
     judged es ns f d e i (Err rf.TooManyEntries) j = too_many av fv f (formed f d) j.0 j.1
 
-    pub attempted : (es : List Expr) (ns : List Node) {r : Result ℕ Refusal} → Parsed source ts es ns r → Attempted text actions features n m es ns r
-    attempted es ns (offends rest o) = no_formula av fv ts rest fit (tokens_of text (omega arith) lexed) o
+    pub attempted : (es : List Expr) (ns : List Node) {r : Result ℕ Refusal} → Parsed source (length text) ts es ns r → Attempted text actions features n m es ns r
+    attempted es ns (offends rest o) = no_formula av fv ts rest fit lexed o
     attempted es ns (parsed {r} f d e i j) = judged es ns f d e i r j

@@ -7,10 +7,8 @@ use Rattle.formulas.specs.declared.Node.{Node}
 use Rattle.formulas.specs.declared.Expr.TheVariants as ex
 use Rattle.formulas.specs.declared.Node.TheVariants as nd
 use Rattle.grammar.specs.declared.Level.TheVariants.{Formula as formula, Expression as expression}
-use Rattle.reader.specs.Shapes.{as_node}
-use Rattle.reader.specs.declared.shapes.Shape.{Shape}
-use Rattle.grammar.specs.declared.Level.{Level}
-use Rattle.reader.specs.Numbering.{put, put_node, put_expr}
+use Rattle.words.specs.Words.{Lines}
+use Rattle.reader.specs.Numbering.{put_node, put_expr}
 use Rattle.reader.specs.Reading.{filled, Enters}
 use Rattle.reader.specs.declared.parser.Reader.{Reader}
 
@@ -29,14 +27,12 @@ filled_more (suc m) d e xs =
     ∙ sym (take-append-le (suc m) (xs ++ e ∷ replicate m d) (d ∷ []) (omega (arith, length-append xs (e ∷ replicate m d), length-replicate m d)))
     ∙ ap (λ l. take (suc m) l) (append_assoc xs (e ∷ replicate m d) (d ∷ []) ∙ ap (λ l. xs ++ e ∷ l) (replicate_more m d ∙ ap (λ k. replicate k d) (add-one m)) ∙ sym (append_assoc xs (e ∷ []) (replicate (suc m) d)))
 
-module _ (a b : Reader) (text : b.text.now ≡ a.text.now) (actions : b.actions.list.now ≡ a.actions.list.now) (features : b.features.list.now ≡ a.features.list.now) (at : b.at ≡ a.at) (unknown : b.unknown ≡ a.unknown) where
-  pub enters_node : (n : Node) → b.nodes.now.entries.now ≡ set a.nodes.now.entries.now a.nodes.now.count n → b.exprs.now.entries.now ≡ a.exprs.now.entries.now → b.nodes.now.count ≡ a.nodes.now.count + 1 → b.exprs.now.count ≡ a.exprs.now.count → (k : ℕ) → k ≡ a.nodes.now.count → Enters formula (put_node n) a b k
-  enters_node n nodes exprs one same k number x ts t s = (
+module _ (a b : Reader) (names : b.names ≡ a.names) (unknown : b.unknown ≡ a.unknown) where
+  pub enters_node : (n : Node) → b.nodes.now.entries.now ≡ set a.nodes.now.entries.now a.nodes.now.count n → b.exprs.now.entries.now ≡ a.exprs.now.entries.now → b.nodes.now.count ≡ a.nodes.now.count + 1 → b.exprs.now.count ≡ a.exprs.now.count → (k : ℕ) → k ≡ a.nodes.now.count → Enters formula (λ x. put_node n) a b k
+  enters_node n nodes exprs one same k number x t s = (
     record {
-      text = text ∙ s.text;
-      actions = actions ∙ s.actions;
-      features = features ∙ s.features;
-      tokens = rw at s.tokens;
+      actions = subst (λ v. Lines v.actions.list.now x.action_names) (sym names) s.actions;
+      features = subst (λ v. Lines v.features.list.now x.feature_names) (sym names) s.features;
       nodes = nodes ∙ ap (λ l. set l a.nodes.now.count n) s.nodes ∙ ap (λ i. set (filled x.nodes nd.False t.nodes) i n) s.node_count ∙ filled_more x.nodes nd.False n t.nodes;
       exprs = exprs ∙ s.exprs;
       node_count = one ∙ ap (λ i. i + 1) s.node_count ∙ sym (length_push t.nodes n);
@@ -46,13 +42,11 @@ module _ (a b : Reader) (text : b.text.now ≡ a.text.now) (actions : b.actions.
     omega (arith, s.node_count, length_push t.nodes n),
   )
 
-  pub enters_expr : (e : Expr) → b.exprs.now.entries.now ≡ set a.exprs.now.entries.now a.exprs.now.count e → b.nodes.now.entries.now ≡ a.nodes.now.entries.now → b.exprs.now.count ≡ a.exprs.now.count + 1 → b.nodes.now.count ≡ a.nodes.now.count → (k : ℕ) → k ≡ a.exprs.now.count → Enters expression (put_expr e) a b k
-  enters_expr e exprs nodes one same k number x ts t s = (
+  pub enters_expr : (e : Expr) → b.exprs.now.entries.now ≡ set a.exprs.now.entries.now a.exprs.now.count e → b.nodes.now.entries.now ≡ a.nodes.now.entries.now → b.exprs.now.count ≡ a.exprs.now.count + 1 → b.nodes.now.count ≡ a.nodes.now.count → (k : ℕ) → k ≡ a.exprs.now.count → Enters expression (λ x. put_expr e) a b k
+  enters_expr e exprs nodes one same k number x t s = (
     record {
-      text = text ∙ s.text;
-      actions = actions ∙ s.actions;
-      features = features ∙ s.features;
-      tokens = rw at s.tokens;
+      actions = subst (λ v. Lines v.actions.list.now x.action_names) (sym names) s.actions;
+      features = subst (λ v. Lines v.features.list.now x.feature_names) (sym names) s.features;
       nodes = nodes ∙ s.nodes;
       exprs = exprs ∙ ap (λ l. set l a.exprs.now.count e) s.exprs ∙ ap (λ i. set (filled x.exprs ex.False t.exprs) i e) s.expr_count ∙ filled_more x.exprs ex.False e t.exprs;
       node_count = same ∙ s.node_count;
@@ -61,8 +55,3 @@ module _ (a b : Reader) (text : b.text.now ≡ a.text.now) (actions : b.actions.
     },
     omega (arith, s.expr_count, length_push t.exprs e),
   )
-
--- an entry that both tables have
-pub enters_shape : (l : Level) (s : Shape) (n : Node) (a b : Reader) (k : ℕ) → l ≡ formula → n ≡ as_node s → Enters formula (put_node n) a b k → Enters l (put l s) a b k
-enters_shape formula s n a b k e f ent = subst (λ m. Enters formula (put_node m) a b k) f ent
-enters_shape expression s n a b k e f ent = let z : ◌≡◌ {A = ℕ} 0 1 = cc in absurd (omega arith)

@@ -2,5 +2,4 @@ pub mod Filled
 pub mod Steps
 pub mod Trees
 pub mod Whole
-pub mod Texts
 pub mod Attempts

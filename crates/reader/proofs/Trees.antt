@@ -1,329 +1,246 @@
 -- How phrases are put together, in the tokens and in the tables.
-use Rattle.std.proofs.Common.{◌≡◌, ℕ, List, [], ◌∷◌, ◌++◌, Ok, Err, Option, Result, sym, refl, ap, ◌∙◌, subst, append_assoc, append-nil, arith}
-use Rattle.lexer.specs.Tokens.{Sym, name, variable, sign}
-use Rattle.lexer.specs.Cuts.{cut_at, found}
-use Rattle.lexer.specs.declared.Sign.TheVariants.{Mu, Nu, Not, And, Or, Bar, Less, LeftBracket, Open, Close, Dot}
-use Rattle.words.specs.Words.{number, Lines}
-use Rattle.words.proofs.Cut.{lines}
-use Rattle.grammar.specs.Grammar.{Tok, tok, Modality, diamond, box, Fixpoint, least, greatest, Tree, var, negation, disjunction, conjunction, feature, modal, fixpoint, opening, closing, word, Ending, free, bound, UnitOf, is_feature, is_variable, is_not, is_parens, is_modal, is_fixpoint, AndPartOf, one_unit, more_units, PhraseOf, one_part, more_parts}
+use Rattle.std.proofs.Common.{◌≡◌, ℕ, false, List, [], ◌∷◌, ◌++◌, Ok, Err, MatchResult, Result, sym, refl, ap, ◌∙◌, subst, append_assoc, arith}
+use Rattle.lexer.specs.Tokens.{Sym, name, variable, sign, Tok, tok}
+use Rattle.lexer.specs.Texts.{toks}
+use Rattle.lexer.specs.declared.Sign.{Sign}
+use Rattle.lexer.specs.declared.Sign.TheVariants.{Not, And, Or, Bar, Less, LeftBracket, Mu, Nu, Open, Close, Dot}
+use Rattle.grammar.specs.Grammar.{Modality, diamond, box, Fixpoint, least, greatest, Tree, negation, disjunction, conjunction, modal, fixpoint, opening, closing, word, Ending, free, bound, UnitOf, is_feature, is_variable, is_not, is_parens, is_modal, is_fixpoint, AndPartOf, one_unit, more_units, PhraseOf, one_part, more_parts}
 use Rattle.grammar.specs.declared.Level.{Level}
 use Rattle.grammar.specs.declared.Level.TheVariants.{Formula as formula, Expression as expression}
-use Rattle.grammar.specs.Machine.{a_tree, a_var, a_name, Inner, bar, greater, bracket, close, dot, sign_of, inner_of, Item, unit, and_tail, or_tail, expect, a_variable, an_action, make_not, make_both, make_modal, make_fixpoint, whole, walk, NotNext, Stops, Any, Ended}
+use Rattle.grammar.specs.Machine.{a_tree, a_var, a_name, Inner, close, sign_of, inner_of, bar, greater, bracket, dot, Item, unit, and_tail, or_tail, expect, a_variable, an_action, make_not, make_both, make_modal, make_fixpoint, whole, walk, NotNext, Stops, Any, Ended}
 use Rattle.grammar.proofs.Complete.{unit_read, part_read, parts_read, phrase_read}
 use Rattle.grammar.proofs.Sound.{not_bound_and, not_bound_or}
 use Rattle.grammar.proofs.Prefix.{expected}
-use Rattle.grammar.proofs.Sound.{closing_is}
 use Rattle.formulas.specs.declared.Node.TheVariants as nd
-use Rattle.formulas.specs.declared.Expr.TheVariants as ex
-use Rattle.reader.specs.Numbering.{Tables, put_node, put_expr, note, or_0, put, last, modal_node, fixpoint_node}
-use Rattle.reader.specs.declared.shapes.Shape.TheVariants.{Or as is_or, And as is_and}
-use Rattle.reader.specs.declared.shapes.Shape.TheVariants.{Not as is_not_shape}
-use Rattle.reader.specs.Reading.{Source, State, entered, Enters, Features, Notes, Did, Reads}
+use Rattle.words.specs.Words.{number}
+use Rattle.reader.specs.Numbering.{Tables, note, put_node, put, last, modal_node, fixpoint_node}
+use Rattle.reader.specs.Reading.{State, left, entered, Keeps, Onto, Enters, feature_at, PhraseIn, Did, Stuck, Takes, Passes, Operates, Variables, Heads, Actions}
 use Rattle.reader.specs.declared.parser.Reader.{Reader}
 use Rattle.reader.specs.declared.refusals.Offence.{Offence}
-use Rattle.reader.proofs.Steps.{moved, next_token, Fails, fails_token, stop_name, Goes, goes_then, goes_more, goes_token}
+use Rattle.reader.proofs.Steps.{stuck_token, stop_name, Goes, goes_then, goes_token}
 
 pub other_level : expression ≡ formula → ⊥
 other_level e = let z : ◌≡◌ {A = ℕ} 0 1 = cc in omega arith
 
--- ---- what one part of the reader did
+-- ---- phrases in the tokens
 
-abbrev pub DidUnit : Level → Reader → Reader → ℕ → Type 0
-DidUnit l a b n = (x : Source) (ts : List Tok) (t : Tables) → State x a ts t → Did l (UnitOf l) Any x b n ts t
+module _ {R : Ending → List Tok → Tree → Type 0} {E : List Tok → Type 0} {f : Tree} where
+  -- a phrase in the same tokens under other names
+  located : {ts us rest on : List Tok} → ts ≡ us → on ≡ rest → PhraseIn R E us rest f → PhraseIn R E ts on f
+  located {us = us} {on = on} e i d = subst (λ x. PhraseIn R E x on f) (sym e) (subst (λ x. PhraseIn R E us x f) (sym i) d)
 
-abbrev pub DidPart : Level → Reader → Reader → ℕ → Type 0
-DidPart l a b n = (x : Source) (ts : List Tok) (t : Tables) → State x a ts t → Did l (AndPartOf l) (NotNext And) x b n ts t
+in_not : {l : Level} (p : ℕ) {ts rest : List Tok} {f : Tree} → PhraseIn (UnitOf l) Any ts rest f → PhraseIn (UnitOf l) Any (tok (sign Not) p ∷ ts) rest (negation f)
+in_not p d = record { how = d.how; used = tok (sign Not) p ∷ d.used; split = ap (λ r. tok (sign Not) p ∷ r) d.split; is = is_not p d.is; ended = d.ended; exit = tt }
 
-abbrev pub DidPhrase : Level → Reader → Reader → ℕ → Type 0
-DidPhrase l a b n = (x : Source) (ts : List Tok) (t : Tables) → State x a ts t → Did l (PhraseOf l) Stops x b n ts t
+in_parens : {l : Level} (p q : ℕ) {ts us rest : List Tok} {f : Tree} → PhraseIn (PhraseOf l) Stops ts us f → us ≡ tok (sign Close) q ∷ rest → PhraseIn (UnitOf l) Any (tok (sign Open) p ∷ ts) rest f
+in_parens p q {rest = rest} d e = record {
+  how = free;
+  used = tok (sign Open) p ∷ (d.used ++ tok (sign Close) q ∷ []);
+  split = ap (λ r. tok (sign Open) p ∷ r) (d.split ∙ ap (λ r. d.used ++ r) e ∙ sym (append_assoc d.used (tok (sign Close) q ∷ []) rest));
+  is = is_parens p q d.is;
+  ended = tt;
+  exit = tt;
+}
 
-abbrev pub DidExpect : Inner → Reader → Reader → Type 0
-DidExpect m a b = (x : Source) (ts : List Tok) (t : Tables) → State x a ts t → (p : ℕ) × (rest : List Tok) × (ts ≡ tok (sign (sign_of m)) p ∷ rest) × State x b rest t
+in_modal : (m : Modality) (w : List ℕ) (p q r s : ℕ) {ts us vs rest : List Tok} {c f : Tree} → PhraseIn (PhraseOf expression) Stops ts us c → us ≡ tok (sign (closing m)) s ∷ vs → PhraseIn (UnitOf formula) Any vs rest f
+    → PhraseIn (UnitOf formula) Any (tok (sign (opening m)) p ∷ tok (name w) q ∷ tok (sign Bar) r ∷ ts) rest (modal m w q c f)
+in_modal m w p q r s {rest = rest} x e u = record {
+  how = u.how;
+  used = tok (sign (opening m)) p ∷ tok (name w) q ∷ tok (sign Bar) r ∷ (x.used ++ tok (sign (closing m)) s ∷ u.used);
+  split =
+      ap (λ y. tok (sign (opening m)) p ∷ tok (name w) q ∷ tok (sign Bar) r ∷ y)
+      (x.split ∙ ap (λ y. x.used ++ y) (e ∙ ap (λ y. tok (sign (closing m)) s ∷ y) u.split) ∙ sym (append_assoc x.used (tok (sign (closing m)) s ∷ u.used) rest));
+  is = is_modal m w p q r s x.is u.is;
+  ended = u.ended;
+  exit = tt;
+}
 
-abbrev pub DidVariable : Reader → Reader → ℕ → Type 0
-DidVariable a b v = (x : Source) (ts : List Tok) (t : Tables) → State x a ts t → (p : ℕ) × (rest : List Tok) × (ts ≡ tok (variable v) p ∷ rest) × State x b rest t
+in_fixpoint : (x : Fixpoint) (v p q r : ℕ) {ts rest : List Tok} {f : Tree} → PhraseIn (PhraseOf formula) Stops ts rest f → PhraseIn (UnitOf formula) Any (tok (sign (word x)) p ∷ tok (variable v) q ∷ tok (sign Dot) r ∷ ts) rest (fixpoint x v f)
+in_fixpoint x v p q r d = record {
+  how = bound;
+  used = tok (sign (word x)) p ∷ tok (variable v) q ∷ tok (sign Dot) r ∷ d.used;
+  split = ap (λ y. tok (sign (word x)) p ∷ tok (variable v) q ∷ tok (sign Dot) r ∷ y) d.split;
+  is = is_fixpoint x v p q r d.is;
+  ended = d.exit;
+  exit = tt;
+}
 
-abbrev pub DidHead : Reader → Reader → ℕ → Type 0
-DidHead a b v = (x : Source) (ts : List Tok) (t : Tables) → State x a ts t → (p : ℕ) × (q : ℕ) × (rest : List Tok) × (ts ≡ tok (variable v) p ∷ tok (sign Dot) q ∷ rest) × State x b rest t
+-- a phrase that goes on past an operator, by an operand
+in_and : {l : Level} (p : ℕ) {ts us vs rest : List Tok} {f g : Tree} → PhraseIn (AndPartOf l) Any ts us f → us ≡ tok (sign And) p ∷ vs → PhraseIn (UnitOf l) Any vs rest g → PhraseIn (AndPartOf l) Any ts rest (conjunction f g)
+in_and {l} p {vs = vs} {rest = rest} {f = f} d e o = record {
+  how = o.how;
+  used = d.used ++ (tok (sign And) p ∷ o.used);
+  split = d.split ∙ ap (λ y. d.used ++ y) (e ∙ ap (λ y. tok (sign And) p ∷ y) o.split) ∙ sym (append_assoc d.used (tok (sign And) p ∷ o.used) rest);
+  is = more_units p (not_bound_and (λ h. AndPartOf l h d.used f) d.how (sign And) p vs refl (subst (Ended d.how) e d.ended) d.is) o.is;
+  ended = o.ended;
+  exit = tt;
+}
 
-abbrev pub DidAction : Reader → Reader → ℕ → Type 0
-DidAction a b k = (x : Source) (ts : List Tok) (t : Tables) → State x a ts t → (w : List ℕ) × (p : ℕ) × (rest : List Tok) × (ts ≡ tok (name w) p ∷ rest) × State x b rest (note (number x.action_names w) p t) × (k ≡ or_0 (number x.action_names w))
+in_or : {l : Level} (p : ℕ) {ts us vs rest : List Tok} {f g : Tree} → PhraseIn (PhraseOf l) (NotNext And) ts us f → us ≡ tok (sign Or) p ∷ vs → PhraseIn (AndPartOf l) (NotNext And) vs rest g → PhraseIn (PhraseOf l) (NotNext And) ts rest (disjunction f g)
+in_or {l} p {vs = vs} {rest = rest} {f = f} d e o = record {
+  how = o.how;
+  used = d.used ++ (tok (sign Or) p ∷ o.used);
+  split = d.split ∙ ap (λ y. d.used ++ y) (e ∙ ap (λ y. tok (sign Or) p ∷ y) o.split) ∙ sym (append_assoc d.used (tok (sign Or) p ∷ o.used) rest);
+  is = more_parts p (not_bound_or (λ h. PhraseOf l h d.used f) d.how (sign Or) p vs refl (subst (Ended d.how) e d.ended) d.is) o.is;
+  ended = o.ended;
+  exit = o.exit;
+}
 
 -- ---- how the machine goes on, with the items i after those of the part
 
 module _ {k i : List Item} {a b c : Reader} where
-  pub then_unit : (l : Level) (n : ℕ) → Goes k (unit l ∷ i) a b → DidUnit l b c n → Goes k i a c
-  then_unit l n g did = goes_then g (goes_more (unit l ∷ []) [] i (record { run = λ x ts t st. let d = did x ts t st in (d.rest, entered x l d.tree t, d.state, λ j ps. (a_tree d.tree ∷ ps, ap (λ y. walk (unit l ∷ j) ps y) d.split ∙ unit_read d.is j ps d.rest d.ended)) }))
+  pub then_unit : (l : Level) (n : ℕ) → Goes k (unit l ∷ i) a b → Onto b c → Did l (UnitOf l) Any b c n → Goes k i a c
+  then_unit l n g on d = goes_then g (record { end = on.end; run = λ j ps. (a_tree d.tree ∷ ps, ap (λ y. walk (unit l ∷ (i ++ j)) ps y) d.reads.split ∙ unit_read d.reads.is (i ++ j) ps (left c) d.reads.ended) })
 
-  pub then_phrase : (l : Level) (n : ℕ) → Goes k (whole l i) a b → DidPhrase l b c n → Goes k i a c
-  then_phrase l n g did = goes_then g (goes_more (whole l []) [] i (record { run = λ x ts t st. let d = did x ts t st in (d.rest, entered x l d.tree t, d.state, λ j ps. (a_tree d.tree ∷ ps, ap (λ y. walk (whole l j) ps y) d.split ∙ phrase_read d.is j ps d.rest d.exit d.ended)) }))
+  pub then_phrase : (l : Level) (n : ℕ) → Goes k (whole l i) a b → Onto b c → Did l (PhraseOf l) Stops b c n → Goes k i a c
+  then_phrase l n g on d = goes_then g (record { end = on.end; run = λ j ps. (a_tree d.tree ∷ ps, ap (λ y. walk (whole l (i ++ j)) ps y) d.reads.split ∙ phrase_read d.reads.is (i ++ j) ps (left c) d.reads.exit d.reads.ended) })
 
-  pub then_expect : (m : Inner) → Goes k (expect m ∷ i) a b → DidExpect m b c → Goes k i a c
-  then_expect m g did = goes_then g (goes_more (expect m ∷ []) [] i (record { run = λ x ts t st. let d = did x ts t st in (d.1, t, d.3, λ j ps. (ps, ap (λ y. walk (expect m ∷ j) ps y) d.2 ∙ expected m d.0 j ps d.1)) }))
+  pub then_expect : (m : Inner) → Goes k (expect m ∷ i) a b → Onto b c → Passes (sign_of m) b c → Goes k i a c
+  then_expect m g on d = goes_then g (record { end = on.end; run = λ j ps. (ps, ap (λ y. walk (expect m ∷ (i ++ j)) ps y) d.1.next ∙ expected m d.0 (i ++ j) ps (left c)) })
 
-  pub then_variable : (v : ℕ) → Goes k (a_variable ∷ i) a b → DidVariable b c v → Goes k i a c
-  then_variable v g did = goes_then g (goes_more (a_variable ∷ []) [] i (record { run = λ x ts t st. let d = did x ts t st in (d.1, t, d.3, λ j ps. (a_var v ∷ ps, ap (λ y. walk (a_variable ∷ j) ps y) d.2)) }))
+  pub then_variable : (v : ℕ) → Goes k (a_variable ∷ i) a b → Onto b c → Variables b c v → Goes k i a c
+  then_variable v g on d = goes_then g (record { end = on.end; run = λ j ps. (a_var v ∷ ps, ap (λ y. walk (a_variable ∷ (i ++ j)) ps y) d.1.next) })
 
-  pub then_head : (v : ℕ) → Goes k (a_variable ∷ expect dot ∷ i) a b → DidHead b c v → Goes k i a c
-  then_head v g did = goes_then g (goes_more (a_variable ∷ expect dot ∷ []) [] i (record { run = λ x ts t st. let d = did x ts t st in (d.2, t, d.4, λ j ps. (a_var v ∷ ps, ap (λ y. walk (a_variable ∷ expect dot ∷ j) ps y) d.3)) }))
+  pub then_head : (v : ℕ) → Goes k (a_variable ∷ expect dot ∷ i) a b → Onto b c → Heads b c v → Goes k i a c
+  then_head v g on d = goes_then g (record { end = on.end; run = λ j ps. (a_var v ∷ ps, ap (λ y. walk (a_variable ∷ expect dot ∷ (i ++ j)) ps y) d.next) })
 
-  pub then_action : (n : ℕ) → Goes k (an_action ∷ i) a b → DidAction b c n → Goes k i a c
-  then_action n g did = goes_then g (goes_more (an_action ∷ []) [] i (record { run = λ x ts t st. let d = did x ts t st in (d.2, note (number x.action_names d.0) d.1 t, d.4, λ j ps. (a_name d.0 d.1 ∷ ps, ap (λ y. walk (an_action ∷ j) ps y) d.3)) }))
+  pub then_action : (n : ℕ) → Goes k (an_action ∷ i) a b → Onto b c → Actions b c n → Goes k i a c
+  then_action n g on d = goes_then g (record { end = on.end; run = λ j ps. (a_name d.action d.place ∷ ps, ap (λ y. walk (an_action ∷ (i ++ j)) ps y) d.next) })
+
+-- up to the right operand
+pub goes_and : (l : Level) (a b c : Reader) (n : ℕ) → Onto a b → Did l (AndPartOf l) Any a b n → Onto b c → Passes And b c → Goes (unit l ∷ and_tail l ∷ []) (unit l ∷ make_both conjunction ∷ and_tail l ∷ []) a c
+goes_and l a b c n on d onto o = record {
+  end = onto.end ∙ on.end;
+  run = λ j ps. (a_tree d.tree ∷ ps, ap (λ y. walk (unit l ∷ and_tail l ∷ j) ps y) (d.reads.split ∙ ap (λ y. d.reads.used ++ y) o.1.next) ∙ part_read d.reads.is j ps (tok (sign And) o.0 ∷ left c) (subst (Ended d.reads.how) o.1.next d.reads.ended));
+}
+
+pub goes_or : (l : Level) (a b c : Reader) (n : ℕ) → Onto a b → Did l (PhraseOf l) (NotNext And) a b n → Onto b c → Passes Or b c → Goes (whole l []) (unit l ∷ and_tail l ∷ make_both disjunction ∷ or_tail l ∷ []) a c
+goes_or l a b c n on d onto o = record {
+  end = onto.end ∙ on.end;
+  run = λ j ps. (a_tree d.tree ∷ ps, ap (λ y. walk (whole l j) ps y) (d.reads.split ∙ ap (λ y. d.reads.used ++ y) o.1.next) ∙ parts_read d.reads.is j ps (tok (sign Or) o.0 ∷ left c) refl (subst (Ended d.reads.how) o.1.next d.reads.ended));
+}
 
 -- ---- how the machine begins a unit
 
-module _ (l : Level) (a : Reader) (p j : ℕ) where
-  pub begins_not : found (sign Not) p j ≡ cut_at a.text.now a.at → Goes (unit l ∷ []) (unit l ∷ make_not ∷ []) a (moved a j)
-  begins_not e = goes_token (unit l) (unit l ∷ make_not ∷ []) [] a (sign Not) p j e (λ k ps. refl)
+module _ (l : Level) (a b : Reader) (p : ℕ) (e : b.end ≡ a.end) where
+  pub begins_not : Takes (sign Not) p a b → Goes (unit l ∷ []) (unit l ∷ make_not ∷ []) a b
+  begins_not t = goes_token (unit l) (unit l ∷ make_not ∷ []) a b (sign Not) p t e (λ k ps. refl)
 
-  pub begins_parens : found (sign Open) p j ≡ cut_at a.text.now a.at → Goes (unit l ∷ []) (whole l (expect close ∷ [])) a (moved a j)
-  begins_parens e = goes_token (unit l) (whole l (expect close ∷ [])) [] a (sign Open) p j e (λ k ps. refl)
+  pub begins_parens : Takes (sign Open) p a b → Goes (unit l ∷ []) (whole l (expect close ∷ [])) a b
+  begins_parens t = goes_token (unit l) (whole l (expect close ∷ [])) a b (sign Open) p t e (λ k ps. refl)
 
-pub begins_modal : (l : Level) (m : Modality) (a : Reader) (p j : ℕ) → l ≡ formula → found (sign (opening m)) p j ≡ cut_at a.text.now a.at → Goes (unit l ∷ []) (an_action ∷ expect bar ∷ whole expression (expect (inner_of m) ∷ unit l ∷ make_modal m ∷ [])) a (moved a j)
-begins_modal formula diamond a p j h e = goes_token (unit formula) (an_action ∷ expect bar ∷ whole expression (expect greater ∷ unit formula ∷ make_modal diamond ∷ [])) [] a (sign Less) p j e (λ k ps. refl)
-begins_modal formula box a p j h e = goes_token (unit formula) (an_action ∷ expect bar ∷ whole expression (expect bracket ∷ unit formula ∷ make_modal box ∷ [])) [] a (sign LeftBracket) p j e (λ k ps. refl)
-begins_modal expression m a p j h e = absurd (other_level h)
+pub begins_modal : (l : Level) (m : Modality) (a b : Reader) (p : ℕ) → l ≡ formula → b.end ≡ a.end → Takes (sign (opening m)) p a b → Goes (unit l ∷ []) (an_action ∷ expect bar ∷ whole expression (expect (inner_of m) ∷ unit l ∷ make_modal m ∷ [])) a b
+begins_modal formula diamond a b p h e t = goes_token (unit formula) (an_action ∷ expect bar ∷ whole expression (expect greater ∷ unit formula ∷ make_modal diamond ∷ [])) a b (sign Less) p t e (λ k ps. refl)
+begins_modal formula box a b p h e t = goes_token (unit formula) (an_action ∷ expect bar ∷ whole expression (expect bracket ∷ unit formula ∷ make_modal box ∷ [])) a b (sign LeftBracket) p t e (λ k ps. refl)
+begins_modal expression m a b p h e t = absurd (other_level h)
 
-pub begins_fixpoint : (l : Level) (f : Fixpoint) (a : Reader) (p j : ℕ) → l ≡ formula → found (sign (word f)) p j ≡ cut_at a.text.now a.at → Goes (unit l ∷ []) (a_variable ∷ expect dot ∷ whole l (make_fixpoint f ∷ [])) a (moved a j)
-begins_fixpoint formula least a p j h e = goes_token (unit formula) (a_variable ∷ expect dot ∷ whole formula (make_fixpoint least ∷ [])) [] a (sign Mu) p j e (λ k ps. refl)
-begins_fixpoint formula greatest a p j h e = goes_token (unit formula) (a_variable ∷ expect dot ∷ whole formula (make_fixpoint greatest ∷ [])) [] a (sign Nu) p j e (λ k ps. refl)
-begins_fixpoint expression f a p j h e = absurd (other_level h)
+pub begins_fixpoint : (l : Level) (f : Fixpoint) (a b : Reader) (p : ℕ) → l ≡ formula → b.end ≡ a.end → Takes (sign (word f)) p a b → Goes (unit l ∷ []) (a_variable ∷ expect dot ∷ whole l (make_fixpoint f ∷ [])) a b
+begins_fixpoint formula least a b p h e t = goes_token (unit formula) (a_variable ∷ expect dot ∷ whole formula (make_fixpoint least ∷ [])) a b (sign Mu) p t e (λ k ps. refl)
+begins_fixpoint formula greatest a b p h e t = goes_token (unit formula) (a_variable ∷ expect dot ∷ whole formula (make_fixpoint greatest ∷ [])) a b (sign Nu) p t e (λ k ps. refl)
+begins_fixpoint expression f a b p h e t = absurd (other_level h)
 
--- ---- units
+-- ---- what a part of the reader did
 
-module _ (l : Level) (a : Reader) (p j : ℕ) where
-  pub did_leaf : (s : Sym) (f : Tree) (F : Tables → Tables) (b : Reader) (n : ℕ) → found s p j ≡ cut_at a.text.now a.at → UnitOf l free (tok s p ∷ []) f → ((x : Source) (t : Tables) → entered x l f t ≡ F t) → Enters l F (moved a j) b n → DidUnit l a b n
-  did_leaf s f F b n e is same ent x ts t st =
-      let m = next_token a s p j e x ts t st in
-      let y = ent x m.0 t m.2 in
-      record { how = free; used = tok s p ∷ []; rest = m.0; tree = f; split = m.1; is = is; ended = tt; exit = tt; state = subst (λ u. State x b m.0 u) (sym (same x t)) y.0; number = y.1 ∙ ap (λ u. last l u) (sym (same x t)) }
+module _ {l : Level} {a m b : Reader} {p n : ℕ} where
+  pub did_leaf : {s : Sym} {f : Tree} → Takes s p a m → UnitOf l free (tok s p ∷ []) f → Keeps m b → Enters l (λ x. entered x l f) m b n → Did l (UnitOf l) Any a b n
+  did_leaf {s} {f} t is k ent = record {
+    tree = f;
+    reads = located t.next (ap toks k.tokens) (record { how = free; used = tok s p ∷ []; split = refl; is = is; ended = tt; exit = tt });
+    enters = λ x u st. ent x u (t.same x u st);
+  }
 
-  pub did_not : (m b : Reader) (c n : ℕ) → found (sign Not) p j ≡ cut_at a.text.now a.at → DidUnit l (moved a j) m c → Enters l (put l (is_not_shape c)) m b n → DidUnit l a b n
-  did_not m b c n e did ent x ts t st =
-      let k = next_token a (sign Not) p j e x ts t st in
-      let d = did x k.0 t k.2 in
-      let P : ℕ → Type 0 = λ i. State x b d.rest (put l (is_not_shape i) (entered x l d.tree t)) × (n ≡ last l (put l (is_not_shape i) (entered x l d.tree t))) in
-      let y = subst P d.number (ent x d.rest (entered x l d.tree t) d.state) in
-      record { how = d.how; used = tok (sign Not) p ∷ d.used; rest = d.rest; tree = negation d.tree; split = k.1 ∙ ap (λ r. tok (sign Not) p ∷ r) d.split; is = is_not p d.is; ended = d.ended; exit = tt; state = y.0; number = y.1 }
+pub did_variable : (l : Level) (a m b : Reader) (p v n : ℕ) → l ≡ formula → Takes (variable v) p a m → Keeps m b → Enters formula (λ x. put_node (nd.Variable v)) m b n → Did l (UnitOf l) Any a b n
+did_variable formula a m b p v n h t k ent = did_leaf t (is_variable v p) k ent
+did_variable expression a m b p v n h t k ent = absurd (other_level h)
 
-  pub did_parens : (m b : Reader) (c : ℕ) → found (sign Open) p j ≡ cut_at a.text.now a.at → DidPhrase l (moved a j) m c → DidExpect close m b → DidUnit l a b c
-  did_parens m b c e did closes x ts t st =
-      let k = next_token a (sign Open) p j e x ts t st in
-      let d = did x k.0 t k.2 in
-      let z = closes x d.rest (entered x l d.tree t) d.state in
-      record {
-        how = free;
-        used = tok (sign Open) p ∷ (d.used ++ tok (sign Close) z.0 ∷ []);
-        rest = z.1;
-        tree = d.tree;
-        split = k.1 ∙ ap (λ r. tok (sign Open) p ∷ r) (d.split ∙ ap (λ r. d.used ++ r) z.2 ∙ sym (append_assoc d.used (tok (sign Close) z.0 ∷ []) z.1));
-        is = is_parens p z.0 d.is;
-        ended = tt;
-        exit = tt;
-        state = z.3;
-        number = d.number;
-      }
+pub did_not : (l : Level) (a m c b : Reader) (p i n : ℕ) → Takes (sign Not) p a m → Did l (UnitOf l) Any m c i → Keeps c b → Enters l (λ x. put l (nd.Not i)) c b n → Did l (UnitOf l) Any a b n
+did_not l a m c b p i n t d k ent = record {
+  tree = negation d.tree;
+  reads = located t.next (ap toks k.tokens) (in_not p d.reads);
+  enters = λ x u st.
+      let y = d.enters x u (t.same x u st) in
+      subst (λ i. State x b (put l (nd.Not i) (entered x l d.tree u)) × (n ≡ last l (put l (nd.Not i) (entered x l d.tree u)))) y.1 (ent x _ y.0);
+}
 
-pub did_variable : (l : Level) (a : Reader) (p j v : ℕ) (b : Reader) (n : ℕ) → l ≡ formula → found (variable v) p j ≡ cut_at a.text.now a.at → Enters formula (put_node (nd.Variable v)) (moved a j) b n → DidUnit l a b n
-did_variable formula a p j v b n h e ent = did_leaf formula a p j (variable v) (var v) (put_node (nd.Variable v)) b n e (is_variable v p) (λ x t. refl) ent
-did_variable expression a p j v b n h e ent = absurd (other_level h)
+pub did_parens : (l : Level) (a m c b : Reader) (p n : ℕ) → Takes (sign Open) p a m → Did l (PhraseOf l) Stops m c n → Passes Close c b → Did l (UnitOf l) Any a b n
+did_parens l a m c b p n t d o = record {
+  tree = d.tree;
+  reads = located t.next refl (in_parens p o.0 d.reads o.1.next);
+  enters = λ x u st. let y = d.enters x u (t.same x u st) in (o.1.same x _ y.0, y.1);
+}
 
--- a feature's name
-did_feature : (l : Level) (a : Reader) (p j : ℕ) (w : List ℕ) (b : Reader) (n : ℕ) → found (name w) p j ≡ cut_at a.text.now a.at → Features l w p (moved a j) b (Ok n) → DidUnit l a b n
-did_feature formula a p j w b n e f x ts t st = absurd (other_level (sym f.0))
-did_feature expression a p j w b n e f x ts t st =
-    let k = next_token a (name w) p j e x ts t st in
-    let y = f.1 x k.0 t k.2 in
-    record { how = free; used = tok (name w) p ∷ []; rest = k.0; tree = feature w p; split = k.1; is = is_feature w p; ended = tt; exit = tt; state = y.0; number = y.1 }
+-- a feature's name is a unit of expressions alone
+pub reads_feature : (l : Level) (a m b : Reader) (p : ℕ) (w : List ℕ) (r : Result ℕ Offence) → Takes (name w) p a m → Keeps m b → MatchResult r (λ n. (l ≡ expression) × Enters expression (feature_at w p) m b n) (λ o. (l ≡ expression → ⊥) × (o.0 ≡ p))
+    → MatchResult r (Did l (UnitOf l) Any a b) (λ o. Stuck (unit l ∷ []) a o.0)
+reads_feature formula a m b p w (Ok n) t k h = absurd (other_level (sym h.0))
+reads_feature expression a m b p w (Ok n) t k h = did_leaf t (is_feature w p) k h.1
+reads_feature l a m b p w (Err o) t k h = subst (λ q. Stuck (unit l ∷ []) a q) (sym h.1) (stuck_token (unit l) a m (name w) p t (stop_name l h.0 w p))
 
-pub reads_feature : (l : Level) (a b : Reader) (p j : ℕ) (w : List ℕ) (q : ℕ) (r : Result ℕ Offence) → found (name w) p j ≡ cut_at a.text.now a.at → q ≡ p → Features l w q (moved a j) b r → Reads l (UnitOf l) Any (unit l ∷ []) a b r
-reads_feature l a b p j w q (Ok n) e i f = did_feature l a p j w b n e (subst (λ o. Features l w o (moved a j) b (Ok n)) i f)
-reads_feature l a b p j w q (Err o) e i f = subst (λ y. Fails (unit l ∷ []) a y) (sym (f.1 ∙ i)) (fails_token (unit l) a (name w) p j e (stop_name l f.0 w p))
+pub did_modal : (l : Level) (v : Modality) (a b c d e f g h : Reader) (p k i j n : ℕ) → l ≡ formula → Takes (sign (opening v)) p a b → Actions b c k → Passes Bar c d → Did expression (PhraseOf expression) Stops d e i → Passes (closing v) e f → Did l (UnitOf l) Any f g j
+    → Keeps g h → Enters formula (λ x. put_node (modal_node v k i j)) g h n → Did l (UnitOf l) Any a h n
+did_modal formula v a b c d e f g h p k i j n z t act o y s u q ent = record {
+  tree = modal v act.action act.place y.tree u.tree;
+  reads = located (t.next ∙ ap (λ r. tok (sign (opening v)) p ∷ r) (act.next ∙ ap (λ r. tok (name act.action) act.place ∷ r) o.1.next)) (ap toks q.tokens) (in_modal v act.action p act.place o.0 s.0 y.reads s.1.next u.reads);
+  enters = λ x w st.
+      let t1 : Tables = note (number x.action_names act.action) act.place w in
+      let t2 : Tables = entered x expression y.tree t1 in
+      let t3 : Tables = entered x formula u.tree t2 in
+      let y0 = act.notes x w (t.same x w st) in
+      let y1 = y.enters x t1 (o.1.same x t1 y0.0) in
+      let y2 = u.enters x t2 (s.1.same x t2 y1.0) in
+      let P : ℕ → ℕ → ℕ → Type 0 = λ k i j. State x h (put_node (modal_node v k i j) t3) × (n ≡ last formula (put_node (modal_node v k i j) t3)) in
+      subst (λ k. P k (last expression t2) (last formula t3)) y0.1 (subst (λ i. P k i (last formula t3)) y1.1 (subst (λ j. P k i j) y2.1 (ent x t3 y2.0)));
+}
+did_modal expression v a b c d e f g h p k i j n z t act o y s u q ent = absurd (other_level z)
 
--- what looking up a feature's name, noting it and entering it come to
-pub enters_feature : (l : Level) (w : List ℕ) (q : ℕ) (a m b : Reader) (o : Option ℕ) (k n : ℕ) → l ≡ expression → ((ws : List (List ℕ)) → Lines a.features.list.now ws → o ≡ number ws w) → Notes o q a m → k ≡ or_0 o → Enters expression (put_expr (ex.Feature k)) m b n → Features l w q a b (Ok n)
-enters_feature l w q a m b o k n h looked notes value ent = (h, λ x ts t st. both x ts t st (looked x.feature_names (subst (λ l. Lines l x.feature_names) (sym st.features) (lines x.known_features))))
-  where
-    both : (x : Source) (ts : List Tok) (t : Tables) → State x a ts t → o ≡ number x.feature_names w → State x b ts (put_expr (ex.Feature (or_0 (number x.feature_names w))) (note (number x.feature_names w) q t)) × (n ≡ last expression (put_expr (ex.Feature (or_0 (number x.feature_names w))) (note (number x.feature_names w) q t)))
-    both x ts t st known =
-        let P : ℕ → Option ℕ → Type 0 = λ y z. State x b ts (put_expr (ex.Feature y) (note z q t)) × (n ≡ last expression (put_expr (ex.Feature y) (note z q t))) in
-        subst (λ z. P (or_0 z) z) known (subst (λ y. P y o) value (ent x ts (note o q t) (notes x ts t st)))
-
--- The action of a modality and its expression, up to its closing sign.
-record Modal (m : Modality) (x : Source) (b : Reader) (k n : ℕ) (ts : List Tok) (t : Tables) : Type 0 where
-  action : List ℕ
-  place : ℕ
-  bar_at : ℕ
-  how : Ending
-  used : List Tok
-  tree : Tree
-  close_at : ℕ
-  rest : List Tok
-  split : ts ≡ tok (name action) place ∷ tok (sign Bar) bar_at ∷ (used ++ tok (sign (closing m)) close_at ∷ rest)
-  is : PhraseOf expression how used tree
-  state : State x b rest (entered x expression tree (note (number x.action_names action) place t))
-  action_number : k ≡ or_0 (number x.action_names action)
-  number : n ≡ last expression (entered x expression tree (note (number x.action_names action) place t))
-
-did_modality : (m : Modality) (a b c d f : Reader) (k n : ℕ) → DidAction a b k → DidExpect bar b c → DidPhrase expression c d n → DidExpect (inner_of m) d f → (x : Source) (ts : List Tok) (t : Tables) → State x a ts t → Modal m x f k n ts t
-did_modality m a b c d f k n acts bars reads closes x ts t st =
-    let v = acts x ts t st in
-    let w = bars x v.2 _ v.4 in
-    let e = reads x w.1 _ w.3 in
-    let z = closes x e.rest _ e.state in
-    record {
-      action = v.0;
-      place = v.1;
-      bar_at = w.0;
-      how = e.how;
-      used = e.used;
-      tree = e.tree;
-      close_at = z.0;
-      rest = z.1;
-      split = v.3 ∙ ap (λ r. tok (name v.0) v.1 ∷ r) (w.2 ∙ ap (λ r. tok (sign Bar) w.0 ∷ r) (e.split ∙ ap (λ r. e.used ++ r) (z.2 ∙ ap (λ s. tok (sign s) z.0 ∷ z.1) (closing_is m))));
-      is = e.is;
-      state = z.3;
-      action_number = v.5;
-      number = e.number;
-    }
-
-did_modal_formula : (v : Modality) (a : Reader) (p j : ℕ) (o m b : Reader) (k i c n : ℕ) → found (sign (opening v)) p j ≡ cut_at a.text.now a.at → ((x : Source) (ts : List Tok) (t : Tables) → State x (moved a j) ts t → Modal v x o k i ts t) → DidUnit formula o m c → Enters formula (put_node (modal_node v k i c)) m b n → DidUnit formula a b n
-did_modal_formula v a p j o m b k i c n e head did ent x ts t st =
-    let f = next_token a (sign (opening v)) p j e x ts t st in
-    let h = head x f.0 t f.2 in
-    let u : Tables = entered x expression h.tree (note (number x.action_names h.action) h.place t) in
-    let d = did x h.rest u h.state in
-    let w : Tables = entered x formula d.tree u in
-    let P : ℕ → ℕ → ℕ → Type 0 = λ q r s. State x b d.rest (put_node (modal_node v q r s) w) × (n ≡ last formula (put_node (modal_node v q r s) w)) in
-    let y1 = subst (λ s. P k i s) d.number (ent x d.rest w d.state) in
-    let y2 = subst (λ r. P k r (last formula w)) h.number y1 in
-    let y3 = subst (λ q. P q (last expression u) (last formula w)) h.action_number y2 in
-    record {
-      how = d.how;
-      used = tok (sign (opening v)) p ∷ tok (name h.action) h.place ∷ tok (sign Bar) h.bar_at ∷ (h.used ++ tok (sign (closing v)) h.close_at ∷ d.used);
-      rest = d.rest;
-      tree = modal v h.action h.place h.tree d.tree;
-      split =
-          f.1 ∙ ap (λ r. tok (sign (opening v)) p ∷ r) h.split
-          ∙ ap (λ r. tok (sign (opening v)) p ∷ tok (name h.action) h.place ∷ tok (sign Bar) h.bar_at ∷ r)
-          (ap (λ r. h.used ++ tok (sign (closing v)) h.close_at ∷ r) d.split ∙ sym (append_assoc h.used (tok (sign (closing v)) h.close_at ∷ d.used) d.rest));
-      is = is_modal v h.action p h.place h.bar_at h.close_at h.is d.is;
-      ended = d.ended;
-      exit = tt;
-      state = y3.0;
-      number = y3.1;
-    }
-
-pub did_modal : (l : Level) (v : Modality) (a : Reader) (p j : ℕ) (d f g o m b : Reader) (k i c n : ℕ) → l ≡ formula → found (sign (opening v)) p j ≡ cut_at a.text.now a.at → DidAction (moved a j) d k → DidExpect bar d f → DidPhrase expression f g i → DidExpect (inner_of v) g o → DidUnit l o m c → Enters formula (put_node (modal_node v k i c)) m b n → DidUnit l a b n
-did_modal formula v a p j d f g o m b k i c n h e acts bars reads closes did ent = did_modal_formula v a p j o m b k i c n e (did_modality v (moved a j) d f g o k i acts bars reads closes) did ent
-did_modal expression v a p j d f g o m b k i c n h e acts bars reads closes did ent = absurd (other_level h)
-
-pub did_fixpoint : (l : Level) (f : Fixpoint) (a : Reader) (p j : ℕ) (o m b : Reader) (v c n : ℕ) → l ≡ formula → found (sign (word f)) p j ≡ cut_at a.text.now a.at → DidHead (moved a j) o v → DidPhrase l o m c → Enters formula (put_node (fixpoint_node f v c)) m b n → DidUnit l a b n
-did_fixpoint formula f a p j o m b v c n h0 e head did ent = λ x ts t st.
-    let k = next_token a (sign (word f)) p j e x ts t st in
-    let h = head x k.0 t k.2 in
-    let d = did x h.2 t h.4 in
-    let w : Tables = entered x formula d.tree t in
-    let P : ℕ → Type 0 = λ s. State x b d.rest (put_node (fixpoint_node f v s) w) × (n ≡ last formula (put_node (fixpoint_node f v s) w)) in
-    let y = subst P d.number (ent x d.rest w d.state) in
-    record {
-      how = bound;
-      used = tok (sign (word f)) p ∷ tok (variable v) h.0 ∷ tok (sign Dot) h.1 ∷ d.used;
-      rest = d.rest;
-      tree = fixpoint f v d.tree;
-      split = k.1 ∙ ap (λ r. tok (sign (word f)) p ∷ r) (h.3 ∙ ap (λ r. tok (variable v) h.0 ∷ tok (sign Dot) h.1 ∷ r) d.split);
-      is = is_fixpoint f v p h.0 h.1 d.is;
-      ended = d.exit;
-      exit = tt;
-      state = y.0;
-      number = y.1;
-    }
-did_fixpoint expression f a p j o m b v c n h0 e head did ent = absurd (other_level h0)
+pub did_fixpoint : (l : Level) (f : Fixpoint) (a b c d e : Reader) (p v i n : ℕ) → l ≡ formula → Takes (sign (word f)) p a b → Heads b c v → Did l (PhraseOf l) Stops c d i → Keeps d e → Enters formula (λ x. put_node (fixpoint_node f v i)) d e n → Did l (UnitOf l) Any a e n
+did_fixpoint formula f a b c d e p v i n z t h y q ent = record {
+  tree = fixpoint f v y.tree;
+  reads = located (t.next ∙ ap (λ r. tok (sign (word f)) p ∷ r) h.next) (ap toks q.tokens) (in_fixpoint f v p h.place h.dot_at y.reads);
+  enters = λ x w st.
+      let y1 = y.enters x w (h.same x w (t.same x w st)) in
+      subst (λ i. State x e (put_node (fixpoint_node f v i) (entered x formula y.tree w)) × (n ≡ last formula (put_node (fixpoint_node f v i) (entered x formula y.tree w)))) y1.1 (ent x _ y1.0);
+}
+did_fixpoint expression f a b c d e p v i n z t h y q ent = absurd (other_level z)
 
 -- ---- loops over operators
 
--- whatever phrase was read up to a0, the loop has gone on from it to a longer one at a
-abbrev pub Loops : Level → (Ending → List Tok → Tree → Type 0) → (List Tok → Type 0) → Reader → ℕ → Reader → ℕ → Type 0
-Loops l R E a0 n0 a n = (x : Source) (e : Ending) (u : List Tok) (f : Tree) (t : Tables) (ts : List Tok) → R e u f → State x a0 ts (entered x l f t) → n0 ≡ last l (entered x l f t) → Ended e ts → E ts → Did l (λ g w h. R g (u ++ w) h) E x a n ts t
+module _ (l : Level) (a b : Reader) (n : ℕ) where
+  pub one_of_units : Did l (UnitOf l) Any a b n → Did l (AndPartOf l) Any a b n
+  one_of_units d = let r = d.reads in record { tree = d.tree; reads = record { how = r.how; used = r.used; split = r.split; is = one_unit r.is; ended = r.ended; exit = tt }; enters = d.enters }
 
-pub loops_none : (l : Level) (R : Ending → List Tok → Tree → Type 0) (E : List Tok → Type 0) (a : Reader) (n : ℕ) → Loops l R E a n a n
-loops_none l R E a n x e u f t ts is st num ended exit = record { how = e; used = []; rest = ts; tree = f; split = refl; is = subst (λ v. R e v f) (sym (append-nil u)) is; ended = ended; exit = exit; state = st; number = num }
+  pub one_of_parts : Did l (AndPartOf l) (NotNext And) a b n → Did l (PhraseOf l) (NotNext And) a b n
+  one_of_parts d = let r = d.reads in record { tree = d.tree; reads = record { how = r.how; used = r.used; split = r.split; is = one_part r.is; ended = r.ended; exit = r.exit }; enters = d.enters }
 
-module _ (l : Level) (a0 : Reader) (n0 : ℕ) (a : Reader) (n p j : ℕ) where
-  pub and_more : found (sign And) p j ≡ cut_at a.text.now a.at → Loops l (AndPartOf l) Any a0 n0 a n → (m b : Reader) (c r : ℕ) → DidUnit l (moved a j) m c → Enters l (put l (is_and n c)) m b r → Loops l (AndPartOf l) Any a0 n0 b r
-  and_more e so m b c r did ent x g u f t ts is st num ended any =
-      let d = so x g u f t ts is st num ended any in
-      let left : Tables = entered x l d.tree t in
-      let k = next_token a (sign And) p j e x d.rest left d.state in
-      let o = did x k.0 left k.2 in
-      let both : Tables = entered x l o.tree left in
-      let P : ℕ → ℕ → Type 0 = λ y z. State x b o.rest (put l (is_and y z) both) × (r ≡ last l (put l (is_and y z) both)) in
-      let v = subst (λ y. P y (last l both)) d.number (subst (λ z. P n z) o.number (ent x o.rest both o.state)) in
-      record {
-        how = o.how;
-        used = d.used ++ (tok (sign And) p ∷ o.used);
-        rest = o.rest;
-        tree = conjunction d.tree o.tree;
-        split = d.split ∙ ap (λ y. d.used ++ y) (k.1 ∙ ap (λ y. tok (sign And) p ∷ y) o.split) ∙ sym (append_assoc d.used (tok (sign And) p ∷ o.used) o.rest);
-        is = subst (λ y. AndPartOf l o.how y (conjunction d.tree o.tree)) (append_assoc u d.used (tok (sign And) p ∷ o.used)) (more_units p (not_bound_and (λ h. AndPartOf l h (u ++ d.used) d.tree) d.how (sign And) p k.0 refl (subst (Ended d.how) k.1 d.ended) d.is) o.is);
-        ended = o.ended;
-        exit = tt;
-        state = v.0;
-        number = v.1;
-      }
-
-  pub or_more : found (sign Or) p j ≡ cut_at a.text.now a.at → Loops l (PhraseOf l) (NotNext And) a0 n0 a n → (m b : Reader) (c r : ℕ) → DidPart l (moved a j) m c → Enters l (put l (is_or n c)) m b r → Loops l (PhraseOf l) (NotNext And) a0 n0 b r
-  or_more e so m b c r did ent x g u f t ts is st num ended any =
-      let d = so x g u f t ts is st num ended any in
-      let left : Tables = entered x l d.tree t in
-      let k = next_token a (sign Or) p j e x d.rest left d.state in
-      let o = did x k.0 left k.2 in
-      let both : Tables = entered x l o.tree left in
-      let P : ℕ → ℕ → Type 0 = λ y z. State x b o.rest (put l (is_or y z) both) × (r ≡ last l (put l (is_or y z) both)) in
-      let v = subst (λ y. P y (last l both)) d.number (subst (λ z. P n z) o.number (ent x o.rest both o.state)) in
-      record {
-        how = o.how;
-        used = d.used ++ (tok (sign Or) p ∷ o.used);
-        rest = o.rest;
-        tree = disjunction d.tree o.tree;
-        split = d.split ∙ ap (λ y. d.used ++ y) (k.1 ∙ ap (λ y. tok (sign Or) p ∷ y) o.split) ∙ sym (append_assoc d.used (tok (sign Or) p ∷ o.used) o.rest);
-        is = subst (λ y. PhraseOf l o.how y (disjunction d.tree o.tree)) (append_assoc u d.used (tok (sign Or) p ∷ o.used)) (more_parts p (not_bound_or (λ h. PhraseOf l h (u ++ d.used) d.tree) d.how (sign Or) p k.0 refl (subst (Ended d.how) k.1 d.ended) d.is) o.is);
-        ended = o.ended;
-        exit = o.exit;
-        state = v.0;
-        number = v.1;
-      }
-
-  -- up to the right operand
-  pub goes_and : found (sign And) p j ≡ cut_at a.text.now a.at → Loops l (AndPartOf l) Any a0 n0 a n → (base : Reader) → DidUnit l base a0 n0 → Goes (unit l ∷ and_tail l ∷ []) (unit l ∷ make_both conjunction ∷ and_tail l ∷ []) base (moved a j)
-  goes_and e so base did0 = record {
-    run = λ x ts t st.
-        let d0 = did0 x ts t st in
-        let d = so x d0.how d0.used d0.tree t d0.rest (one_unit d0.is) d0.state d0.number d0.ended tt in
-        let k = next_token a (sign And) p j e x d.rest (entered x l d.tree t) d.state in
-        let all : ts ≡ (d0.used ++ d.used) ++ (tok (sign And) p ∷ k.0) = d0.split ∙ ap (λ y. d0.used ++ y) (d.split ∙ ap (λ y. d.used ++ y) k.1) ∙ sym (append_assoc d0.used d.used (tok (sign And) p ∷ k.0)) in
-        (k.0, entered x l d.tree t, k.2, λ i ps. (a_tree d.tree ∷ ps, ap (λ y. walk (unit l ∷ and_tail l ∷ i) ps y) all ∙ part_read d.is i ps (tok (sign And) p ∷ k.0) (subst (Ended d.how) k.1 d.ended)));
+  -- no operator comes next
+  pub no_more : (R : Ending → List Tok → Tree → Type 0) (E F : List Tok → Type 0) (o : Sign) (c : Reader) → (NotNext o (left c) → E (left c) → F (left c)) → Did l R E a b n → Operates o b c false → Did l R F a c n
+  no_more R E F o c exit d past = record {
+    tree = d.tree;
+    reads = let r = located {R = R} {E = E} refl (sym past.1) d.reads in record { how = r.how; used = r.used; split = r.split; is = r.is; ended = r.ended; exit = exit past.0 r.exit };
+    enters = λ x t st. let y = d.enters x t st in (past.2 x _ y.0, y.1);
   }
 
-  pub goes_or : found (sign Or) p j ≡ cut_at a.text.now a.at → Loops l (PhraseOf l) (NotNext And) a0 n0 a n → (base : Reader) → DidPart l base a0 n0 → Goes (whole l []) (unit l ∷ and_tail l ∷ make_both disjunction ∷ or_tail l ∷ []) base (moved a j)
-  goes_or e so base did0 = record {
-    run = λ x ts t st.
-        let d0 = did0 x ts t st in
-        let d = so x d0.how d0.used d0.tree t d0.rest (one_part d0.is) d0.state d0.number d0.ended d0.exit in
-        let k = next_token a (sign Or) p j e x d.rest (entered x l d.tree t) d.state in
-        let all : ts ≡ (d0.used ++ d.used) ++ (tok (sign Or) p ∷ k.0) = d0.split ∙ ap (λ y. d0.used ++ y) (d.split ∙ ap (λ y. d.used ++ y) k.1) ∙ sym (append_assoc d0.used d.used (tok (sign Or) p ∷ k.0)) in
-        (k.0, entered x l d.tree t, k.2, λ i ps. (a_tree d.tree ∷ ps, ap (λ y. walk (whole l i) ps y) all ∙ parts_read d.is i ps (tok (sign Or) p ∷ k.0) refl (subst (Ended d.how) k.1 d.ended)));
-  }
+  module _ (c d e : Reader) (k r : ℕ) (keeps : Keeps d e) where
+    pub and_more : Did l (AndPartOf l) Any a b n → Passes And b c → Did l (UnitOf l) Any c d k → Enters l (λ x. put l (nd.And n k)) d e r → Did l (AndPartOf l) Any a e r
+    and_more f o g ent = record {
+      tree = conjunction f.tree g.tree;
+      reads = located refl (ap toks keeps.tokens) (in_and o.0 f.reads o.1.next g.reads);
+      enters = λ x t st.
+          let y = f.enters x t st in
+          let z = g.enters x _ (o.1.same x _ y.0) in
+          let both : Tables = entered x l g.tree (entered x l f.tree t) in
+          let P : ℕ → ℕ → Type 0 = λ i j. State x e (put l (nd.And i j) both) × (r ≡ last l (put l (nd.And i j) both)) in
+          subst (λ i. P i (last l both)) y.1 (subst (λ j. P n j) z.1 (ent x _ z.0));
+    }
 
--- the loop is done
-pub and_done : (l : Level) (base a0 a : Reader) (n0 n : ℕ) → DidUnit l base a0 n0 → Loops l (AndPartOf l) Any a0 n0 a n → ((x : Source) (ts : List Tok) (t : Tables) → State x a ts t → NotNext And ts) → DidPart l base a n
-and_done l base a0 a n0 n did0 so stop x ts t st =
-    let d0 = did0 x ts t st in
-    let d = so x d0.how d0.used d0.tree t d0.rest (one_unit d0.is) d0.state d0.number d0.ended tt in
-    record { how = d.how; used = d0.used ++ d.used; rest = d.rest; tree = d.tree; split = d0.split ∙ ap (λ y. d0.used ++ y) d.split ∙ sym (append_assoc d0.used d.used d.rest); is = d.is; ended = d.ended; exit = stop x d.rest _ d.state; state = d.state; number = d.number }
-
-pub or_done : (l : Level) (base a0 a : Reader) (n0 n : ℕ) → DidPart l base a0 n0 → Loops l (PhraseOf l) (NotNext And) a0 n0 a n → ((x : Source) (ts : List Tok) (t : Tables) → State x a ts t → NotNext Or ts) → DidPhrase l base a n
-or_done l base a0 a n0 n did0 so stop x ts t st =
-    let d0 = did0 x ts t st in
-    let d = so x d0.how d0.used d0.tree t d0.rest (one_part d0.is) d0.state d0.number d0.ended d0.exit in
-    record { how = d.how; used = d0.used ++ d.used; rest = d.rest; tree = d.tree; split = d0.split ∙ ap (λ y. d0.used ++ y) d.split ∙ sym (append_assoc d0.used d.used d.rest); is = d.is; ended = d.ended; exit = (d.exit, stop x d.rest _ d.state); state = d.state; number = d.number }
+    pub or_more : Did l (PhraseOf l) (NotNext And) a b n → Passes Or b c → Did l (AndPartOf l) (NotNext And) c d k → Enters l (λ x. put l (nd.Or n k)) d e r → Did l (PhraseOf l) (NotNext And) a e r
+    or_more f o g ent = record {
+      tree = disjunction f.tree g.tree;
+      reads = located refl (ap toks keeps.tokens) (in_or o.0 f.reads o.1.next g.reads);
+      enters = λ x t st.
+          let y = f.enters x t st in
+          let z = g.enters x _ (o.1.same x _ y.0) in
+          let both : Tables = entered x l g.tree (entered x l f.tree t) in
+          let P : ℕ → ℕ → Type 0 = λ i j. State x e (put l (nd.Or i j) both) × (r ≡ last l (put l (nd.Or i j) both)) in
+          subst (λ i. P i (last l both)) y.1 (subst (λ j. P n j) z.1 (ent x _ z.0));
+    }

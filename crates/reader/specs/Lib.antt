@@ -1,6 +1,6 @@
-pub mod Shapes
-pub mod Refusals
 pub mod Numbering
 pub mod Reading
-pub mod Texts
 pub mod Outcome
+pub mod Refusals
+pub mod Shapes
+pub mod Vocabularies

@@ -4,9 +4,7 @@ use Rattle.formulas.specs.declared.Expr.{Expr}
 use Rattle.formulas.specs.declared.Expr.TheVariants as ex
 use Rattle.formulas.specs.declared.Node.{Node}
 use Rattle.formulas.specs.declared.Node.TheVariants as nd
-use Rattle.reader.specs.declared.shapes.Shape.{Shape}
-use Rattle.reader.specs.declared.shapes.Shape.TheVariants.{False as is_false, True as is_true, Not as is_not, Or as is_or, And as is_and}
-use Rattle.reader.specs.Shapes.{as_node, as_expr}
+use Rattle.reader.specs.Shapes.{as_expr}
 use Rattle.grammar.specs.Grammar.{Modality, diamond, box, Fixpoint, least, greatest, Tree, bottom, top, negation, disjunction, conjunction, feature, var, modal, fixpoint}
 use Rattle.grammar.specs.declared.Level.{Level}
 use Rattle.grammar.specs.declared.Level.TheVariants.{Formula as formula, Expression as expression}
@@ -35,9 +33,10 @@ abbrev pub or_0 : Option ℕ → ℕ
 or_0 (Some k) = k
 or_0 None = 0
 
-abbrev pub put : Level → Shape → Tables → Tables
-put formula s t = put_node (as_node s) t
-put expression s t = put_expr (as_expr s) t
+-- An entry that both tables have.
+abbrev pub put : Level → Node → Tables → Tables
+put formula n t = put_node n t
+put expression n t = put_expr (as_expr n) t
 
 -- The number of the entry made last.
 abbrev pub last : Level → Tables → ℕ
@@ -61,15 +60,15 @@ at_level expression f e = e
 -- a modality or a fixpoint, and no formula has a feature but in an expression.
 module _ (action feat : List ℕ → Option ℕ) where
   abbrev pub enter : Level → Tree → Tables → Tables
-  enter l bottom t = put l is_false t
-  enter l top t = put l is_true t
-  enter l (negation a) t = put l (is_not (last l (enter l a t))) (enter l a t)
-  enter l (disjunction a b) t = put l (is_or (last l (enter l a t)) (last l (enter l b (enter l a t)))) (enter l b (enter l a t))
-  enter l (conjunction a b) t = put l (is_and (last l (enter l a t)) (last l (enter l b (enter l a t)))) (enter l b (enter l a t))
-  enter l (feature w p) t = at_level l (put l is_false t) (put_expr (ex.Feature (or_0 (feat w))) (note (feat w) p t))
-  enter l (var v) t = at_level l (put_node (nd.Variable v) t) (put l is_false t)
+  enter l bottom t = put l nd.False t
+  enter l top t = put l nd.True t
+  enter l (negation a) t = put l (nd.Not (last l (enter l a t))) (enter l a t)
+  enter l (disjunction a b) t = put l (nd.Or (last l (enter l a t)) (last l (enter l b (enter l a t)))) (enter l b (enter l a t))
+  enter l (conjunction a b) t = put l (nd.And (last l (enter l a t)) (last l (enter l b (enter l a t)))) (enter l b (enter l a t))
+  enter l (feature w p) t = at_level l (put l nd.False t) (put_expr (ex.Feature (or_0 (feat w))) (note (feat w) p t))
+  enter l (var v) t = at_level l (put_node (nd.Variable v) t) (put l nd.False t)
   enter l (modal m w p e a) t =
       at_level l
       (put_node (modal_node m (or_0 (action w)) (last expression (enter expression e (note (action w) p t))) (last formula (enter formula a (enter expression e (note (action w) p t))))) (enter formula a (enter expression e (note (action w) p t))))
-      (put l is_false t)
-  enter l (fixpoint x v a) t = at_level l (put_node (fixpoint_node x v (last formula (enter formula a t))) (enter formula a t)) (put l is_false t)
+      (put l nd.False t)
+  enter l (fixpoint x v a) t = at_level l (put_node (fixpoint_node x v (last formula (enter formula a t))) (enter formula a t)) (put l nd.False t)

@@ -1,18 +1,19 @@
 -- What reading a text gives, and what both tables hold then.
 use Rattle.std.specs.Prelude.{◌≡◌, ℕ, ◌-◌, ◌<◌, ◌≤◌, ◌⊎◌, List, [], ◌∷◌, ◌++◌, length, replicate, Ok, Err, Result}
-use Rattle.lexer.specs.Tokens.{Sym}
-use Rattle.lexer.specs.Cuts.{cut_at, found, bad}
-use Rattle.words.specs.Words.{WordList, InForm, number}
+use Rattle.lexer.specs.Tokens.{Tok}
+use Rattle.words.specs.Words.{Lines, WordList, number}
 use Rattle.formulas.specs.declared.Expr.{Expr}
 use Rattle.formulas.specs.declared.Expr.TheVariants as ex
 use Rattle.formulas.specs.declared.Node.{Node}
 use Rattle.formulas.specs.declared.Node.TheVariants as nd
-use Rattle.grammar.specs.Grammar.{Tok, Tree, FormulaOf}
+use Rattle.grammar.specs.Grammar.{Tree, FormulaOf}
 use Rattle.grammar.specs.declared.Level.TheVariants.{Formula as formula}
 use Rattle.grammar.specs.Viable.{Offends}
 use Rattle.reader.specs.Numbering.{Tables, none_entered, enter}
-use Rattle.reader.specs.Reading.{Lexes, place_of, Source, entered, filled}
-use Rattle.reader.specs.Texts.{TokensOf, NoTokenAt}
+use Rattle.reader.specs.Reading.{place_from, place_of, Source, entered, filled}
+use Rattle.reader.specs.Vocabularies.{Worded}
+use Rattle.reader.specs.declared.vocabulary.Vocabulary.{Vocabulary}
+use Rattle.lexer.specs.Texts.{TokensOf, NoTokenAt}
 use Rattle.reader.specs.declared.refusals.Refusal.{Refusal}
 use Rattle.reader.specs.declared.refusals.Refusal.TheVariants as rf
 pub use Rattle.reader.specs.Refusals.{refusal_number, refusal_value, answer_number, answer_value}
@@ -37,7 +38,7 @@ pub record Formed (text actions features : List ℕ) (av fv : List (List ℕ)) (
 -- The answer's number and value, and both tables after it, for tables of n and m entries.
 pub data Tried (text actions features : List ℕ) (n m : ℕ) : ℕ → ℕ → List Expr → List Node → Type 0 where
   long_text : 1024 < length text → Tried text actions features n m 20 0 (replicate n ex.False) (replicate m nd.False)
-  no_words : length text ≤ 1024 → (InForm 64 actions × InForm 16 features → ⊥) → Tried text actions features n m 21 0 (replicate n ex.False) (replicate m nd.False)
+  no_words : length text ≤ 1024 → (Worded actions features → ⊥) → Tried text actions features n m 21 0 (replicate n ex.False) (replicate m nd.False)
   no_token : (av fv : List (List ℕ)) (p : ℕ) → Fit text actions features av fv → NoTokenAt text 0 p → Tried text actions features n m 22 p (replicate n ex.False) (replicate m nd.False)
   no_formula : (av fv : List (List ℕ)) (ts rest : List Tok) → Fit text actions features av fv → TokensOf text 0 ts → Offends ts rest → Tried text actions features n m 23 (place_of text rest) (replicate n ex.False) (replicate m nd.False)
   unknown_name : (av fv : List (List ℕ)) (f : Tree) (p : ℕ) (ps : List ℕ) → Formed text actions features av fv f → (numbering av fv f).unknown ≡ p ∷ ps → Tried text actions features n m 24 p (replicate n ex.False) (replicate m nd.False)
@@ -56,28 +57,10 @@ abbrev pub Attempted : List ℕ → List ℕ → List ℕ → ℕ → ℕ → Li
 Attempted text actions features n m es ns (Ok k) = Tried text actions features n m 0 k es ns
 Attempted text actions features n m es ns (Err r) = Tried text actions features n m (refusal_number r) (refusal_value r) (replicate n ex.False) (replicate m nd.False)
 
--- A walk over the tokens comes to the end, or to a place where no token begins.
-pub data NoToken (bs : List ℕ) : ℕ → ℕ → Type 0 where
-  bad_here : (i p : ℕ) → cut_at bs i ≡ bad p → NoToken bs i p
-  bad_later : (i : ℕ) (s : Sym) (q j p : ℕ) → cut_at bs i ≡ found s q j → NoToken bs j p → NoToken bs i p
-
--- A text falls into tokens, or is refused at that place.
-abbrev pub Lexed : List ℕ → Result (Unit {0}) Refusal → Type 0
-Lexed bs (Ok u) = (ts : List Tok) × Lexes bs 0 ts
-Lexed bs (Err rf.ShortTable) = ⊥
-Lexed bs (Err rf.LongText) = ⊥
-Lexed bs (Err rf.WordList) = ⊥
-Lexed bs (Err (rf.NoToken p)) = NoToken bs 0 p
-Lexed bs (Err (rf.NoFormula p)) = ⊥
-Lexed bs (Err (rf.UnknownName p)) = ⊥
-Lexed bs (Err rf.TooManyEntries) = ⊥
-
 -- What the parser is given.
-pub record Ready (x : Source) (ts : List Tok) (text actions features : List ℕ) (es : List Expr) (ns : List Node) : Type 0 where
-  pub same_text : text ≡ x.text
-  pub same_actions : actions ≡ x.actions
-  pub same_features : features ≡ x.features
-  pub tokens : Lexes x.text 0 ts
+pub record Ready (x : Source) (names : Vocabulary) (es : List Expr) (ns : List Node) : Type 0 where
+  pub actions : Lines names.actions.list.now x.action_names
+  pub features : Lines names.features.list.now x.feature_names
   pub exprs : es ≡ replicate x.exprs ex.False
   pub nodes : ns ≡ replicate x.nodes nd.False
 
@@ -92,7 +75,8 @@ Judged t (Err (rf.NoFormula p)) = ⊥
 Judged t (Err (rf.UnknownName p)) = (ps : List ℕ) × (t.unknown ≡ p ∷ ps)
 Judged t (Err rf.TooManyEntries) = (t.unknown ≡ []) × ((64 < length t.nodes) ⊎ (64 < length t.exprs))
 
--- The tokens offend at a place, or are a formula of which something is said, and whose entries are in the tables as far as they fit.
-pub data Parsed (x : Source) (ts : List Tok) (es : List Expr) (ns : List Node) : Result ℕ Refusal → Type 0 where
-  offends : (rest : List Tok) → Offends ts rest → Parsed x ts es ns (Err (rf.NoFormula (place_of x.text rest)))
-  parsed : {r : Result ℕ Refusal} (f : Tree) → FormulaOf ts f → es ≡ filled x.exprs ex.False (entered x formula f none_entered).exprs → ns ≡ filled x.nodes nd.False (entered x formula f none_entered).nodes → Judged (entered x formula f none_entered) r → Parsed x ts es ns r
+-- The tokens, whose text has this length, offend at a place, or are a formula of which something is said, and whose
+-- entries are in the tables as far as they fit.
+pub data Parsed (x : Source) (end : ℕ) (ts : List Tok) (es : List Expr) (ns : List Node) : Result ℕ Refusal → Type 0 where
+  offends : (rest : List Tok) → Offends ts rest → Parsed x end ts es ns (Err (rf.NoFormula (place_from end rest)))
+  parsed : {r : Result ℕ Refusal} (f : Tree) → FormulaOf ts f → es ≡ filled x.exprs ex.False (entered x formula f none_entered).exprs → ns ≡ filled x.nodes nd.False (entered x formula f none_entered).nodes → Judged (entered x formula f none_entered) r → Parsed x end ts es ns r

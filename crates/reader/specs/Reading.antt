@@ -1,40 +1,30 @@
 -- What the reader's functions do to the reader.
-use Rattle.std.specs.Prelude.{◌≡◌, ℕ, ◌+◌, ◌<◌, ◌≤◌, List, [], ◌∷◌, ◌++◌, length, take, replicate, Some, None, Ok, Err, Option, Result}
-use Rattle.lexer.specs.Tokens.{Sym, name, variable, sign}
-use Rattle.lexer.specs.Cuts.{cut_at, found, end, sym_of, Placed}
+use Rattle.std.specs.Prelude.{◌≡◌, ℕ, ◌+◌, ◌≤◌, Bool, true, false, List, [], ◌∷◌, ◌++◌, length, take, replicate, Some, None, Option}
+use Rattle.lexer.specs.Tokens.{Sym, Tok, tok, name, variable, sign}
+use Rattle.lexer.specs.Texts.{toks}
 use Rattle.lexer.specs.declared.Sign.{Sign}
 use Rattle.lexer.specs.declared.Sign.TheVariants.{Dot}
-use Rattle.words.specs.Words.{WordList, number}
+use Rattle.words.specs.Words.{Lines, number}
 use Rattle.formulas.specs.declared.Expr.TheVariants as ex
 use Rattle.formulas.specs.declared.Node.TheVariants as nd
-use Rattle.grammar.specs.Grammar.{Tok, tok, Tree, Ending}
+use Rattle.grammar.specs.Grammar.{Tree, Ending}
 use Rattle.grammar.specs.declared.Level.{Level}
-use Rattle.grammar.specs.declared.Level.TheVariants.{Expression as expression}
-use Rattle.grammar.specs.Machine.{Part, Inner, dot, sign_of, Item, expect, a_variable, an_action, fail, walk, NotNext, Ended}
+use Rattle.grammar.specs.Machine.{Part, Item, fail, walk, NotNext, Ended}
 use Rattle.reader.specs.Numbering.{Tables, put_expr, note, or_0, last, enter}
-use Rattle.reader.specs.declared.refusals.Offence.{Offence}
 use Rattle.reader.specs.declared.parser.Reader.{Reader}
-use Rattle.lexer.specs.declared.Found.{Found}
 
--- The tokens of a text from a place on.
-pub data Lexes (bs : List ℕ) : ℕ → List Tok → Type 0 where
-  at_end : (i p : ℕ) → cut_at bs i ≡ end p → Lexes bs i []
-  at_token : (i : ℕ) (s : Sym) (p j : ℕ) {ts : List Tok} → cut_at bs i ≡ found s p j → Lexes bs j ts → Lexes bs i (tok s p ∷ ts)
+-- The place of the first of these tokens, or the end of their text.
+abbrev pub place_from : ℕ → List Tok → ℕ
+place_from end [] = end
+place_from end (tok s p ∷ ts) = p
 
--- The place of the first of these tokens, or the text's end.
 abbrev pub place_of : List ℕ → List Tok → ℕ
-place_of bs [] = length bs
-place_of bs (tok s p ∷ ts) = p
+place_of bs ts = place_from (length bs) ts
 
--- What is read: the text, both word lists with their names, and how long both tables are.
+-- What names are known, and how long both tables are.
 pub record Source : Type 0 where
-  pub text : List ℕ
-  pub actions : List ℕ
-  pub features : List ℕ
   pub action_names : List (List ℕ)
   pub feature_names : List (List ℕ)
-  pub known_actions : WordList 64 actions action_names
-  pub known_features : WordList 16 features feature_names
   pub nodes : ℕ
   pub exprs : ℕ
 
@@ -49,23 +39,24 @@ abbrev pub first_of : List ℕ → Option ℕ
 first_of [] = None
 first_of (p ∷ ps) = Some p
 
--- The reader has read up to the tokens ts and has entered the tables t.
-pub record State (x : Source) (r : Reader) (ts : List Tok) (t : Tables) : Type 0 where
-  pub text : r.text.now ≡ x.text
-  pub actions : r.actions.list.now ≡ x.actions
-  pub features : r.features.list.now ≡ x.features
-  pub tokens : Lexes x.text r.at ts
+-- The tokens that the reader has left.
+abbrev pub left : Reader → List Tok
+left r = toks r.tokens.now
+
+-- The reader has entered the tables t.
+pub record State (x : Source) (r : Reader) (t : Tables) : Type 0 where
+  pub actions : Lines r.names.actions.list.now x.action_names
+  pub features : Lines r.names.features.list.now x.feature_names
   pub nodes : r.nodes.now.entries.now ≡ filled x.nodes nd.False t.nodes
   pub exprs : r.exprs.now.entries.now ≡ filled x.exprs ex.False t.exprs
   pub node_count : r.nodes.now.count ≡ length t.nodes
   pub expr_count : r.exprs.now.count ≡ length t.exprs
   pub unknown : r.unknown ≡ first_of t.unknown
 
--- The reader is within the text, and has entered no more than it has read.
+-- Entries and tokens left are few: an entry is made for a token that is read.
 pub record Inside (r : Reader) : Type 0 where
-  pub within : r.at ≤ length r.text.now
-  pub few_nodes : r.nodes.now.count ≤ r.at
-  pub few_exprs : r.exprs.now.count ≤ r.at
+  pub few_nodes : r.nodes.now.count + length r.tokens.now ≤ 1024
+  pub few_exprs : r.exprs.now.count + length r.tokens.now ≤ 1024
 
 -- The reader's tables stay those that it was lent.
 pub record SameTables (a b : Reader) : Type 0 where
@@ -74,10 +65,10 @@ pub record SameTables (a b : Reader) : Type 0 where
   pub node_entries : b.nodes.now.entries.ghost_name ≡ a.nodes.now.entries.ghost_name
   pub expr_entries : b.exprs.now.entries.ghost_name ≡ a.exprs.now.entries.ghost_name
 
--- The reader stays at its place, and keeps its tables.
+-- The reader stays at its token, and keeps its tables.
 pub record Keeps (a b : Reader) : Type 0 where
-  pub text : b.text.now ≡ a.text.now
-  pub at : b.at ≡ a.at
+  pub tokens : b.tokens.now ≡ a.tokens.now
+  pub end : b.end ≡ a.end
   pub tables : SameTables a b
 
 -- The reader enters at most one entry.
@@ -85,82 +76,79 @@ pub record Grows (a b : Reader) : Type 0 where
   pub nodes : b.nodes.now.count ≤ a.nodes.now.count + 1
   pub exprs : b.exprs.now.count ≤ a.exprs.now.count + 1
 
--- The reader goes on in the text, enters no more than it reads, and keeps its tables.
+-- The reader goes on, enters no more than it reads, and keeps its tables.
 pub record Onto (a b : Reader) : Type 0 where
-  pub text : b.text.now ≡ a.text.now
-  pub on : a.at ≤ b.at
-  pub within : b.at ≤ length b.text.now
-  pub few_nodes : b.nodes.now.count + a.at ≤ a.nodes.now.count + b.at
-  pub few_exprs : b.exprs.now.count + a.at ≤ a.exprs.now.count + b.at
+  pub end : b.end ≡ a.end
+  pub on : length b.tokens.now ≤ length a.tokens.now
+  pub few_nodes : b.nodes.now.count + length b.tokens.now ≤ a.nodes.now.count + length a.tokens.now
+  pub few_exprs : b.exprs.now.count + length b.tokens.now ≤ a.exprs.now.count + length a.tokens.now
   pub tables : SameTables a b
 
--- One entry more, with the number n.
-abbrev pub Enters : Level → (Tables → Tables) → Reader → Reader → ℕ → Type 0
-Enters l f a b n = (x : Source) (ts : List Tok) (t : Tables) → State x a ts t → State x b ts (f t) × (n ≡ last l (f t))
+-- The reader enters nothing.
+abbrev pub Same : Reader → Reader → Type 0
+Same a b = (x : Source) (t : Tables) → State x a t → State x b t
 
--- A feature's name that stands at p is entered with the number n at the level of expressions; at the other it stops the reader there.
-abbrev pub Features : Level → List ℕ → ℕ → Reader → Reader → Result ℕ Offence → Type 0
-Features l w p a b (Ok n) =
-    (l ≡ expression)
-    × ((x : Source) (ts : List Tok) (t : Tables) → State x a ts t → State x b ts (put_expr (ex.Feature (or_0 (number x.feature_names w))) (note (number x.feature_names w) p t)) × (n ≡ last expression (put_expr (ex.Feature (or_0 (number x.feature_names w))) (note (number x.feature_names w) p t))))
-Features l w p a b (Err o) = ¬ (l ≡ expression) × (o.0 ≡ p)
+-- The reader enters what f says; the entry made last has the number n.
+abbrev pub Enters : Level → (Source → Tables → Tables) → Reader → Reader → ℕ → Type 0
+Enters l f a b n = (x : Source) (t : Tables) → State x a t → State x b (f x t) × (n ≡ last l (f x t))
+
+-- A feature's name that stands at p is entered.
+abbrev pub feature_at : List ℕ → ℕ → Source → Tables → Tables
+feature_at w p x t = put_expr (ex.Feature (or_0 (number x.feature_names w))) (note (number x.feature_names w) p t)
 
 -- A name that stands at p is noted if it has no number.
 abbrev pub Notes : Option ℕ → ℕ → Reader → Reader → Type 0
-Notes o p a b = (x : Source) (ts : List Tok) (t : Tables) → State x a ts t → State x b ts (note o p t)
+Notes o p a b = (x : Source) (t : Tables) → State x a t → State x b (note o p t)
 
--- The reader goes past a phrase of the kind R, whose tree is entered with the number n, and what follows is E.
-pub record Did (l : Level) (R : Ending → List Tok → Tree → Type 0) (E : List Tok → Type 0) (x : Source) (b : Reader) (n : ℕ) (ts : List Tok) (t : Tables) : Type 0 where
+-- The tokens ts are a phrase of the kind R, which has the tree f, and then the rest, which is E.
+pub record PhraseIn (R : Ending → List Tok → Tree → Type 0) (E : List Tok → Type 0) (ts rest : List Tok) (f : Tree) : Type 0 where
   pub how : Ending
   pub used : List Tok
-  pub rest : List Tok
-  pub tree : Tree
   pub split : ts ≡ used ++ rest
-  pub is : R how used tree
+  pub is : R how used f
   pub ended : Ended how rest
   pub exit : E rest
-  pub state : State x b rest (entered x l tree t)
-  pub number : n ≡ last l (entered x l tree t)
 
--- The machine that has the items k still to come, and whatever after them, stops, and p is the place.
-pub record Stuck (k : List Item) (bs : List ℕ) (p : ℕ) (ts : List Tok) : Type 0 where
+-- The reader goes past such a phrase, whose tree it enters with the number n.
+pub record Did (l : Level) (R : Ending → List Tok → Tree → Type 0) (E : List Tok → Type 0) (a b : Reader) (n : ℕ) : Type 0 where
+  pub tree : Tree
+  pub reads : PhraseIn R E (left a) (left b) tree
+  pub enters : Enters l (λ x. entered x l tree) a b n
+
+-- The machine that has the items k still to come, and whatever after them, stops at the place p.
+pub record Stuck (k : List Item) (a : Reader) (p : ℕ) : Type 0 where
   pub rest : List Tok
-  pub fails : (j : List Item) (ps : List Part) → walk (k ++ j) ps ts ≡ fail rest
-  pub place : p ≡ place_of bs rest
+  pub fails : (j : List Item) (ps : List Part) → walk (k ++ j) ps (left a) ≡ fail rest
+  pub place : p ≡ place_from a.end rest
 
-abbrev pub Answer : {X : Type 0} → List Item → (Reader → X → List Tok → Tables → Source → Type 0) → Reader → Reader → Result X Offence → Type 0
-Answer k D a b (Ok n) = (x : Source) (ts : List Tok) (t : Tables) → State x a ts t → D b n ts t x
-Answer k D a b (Err p) = (x : Source) (ts : List Tok) (t : Tables) → State x a ts t → Stuck k x.text p.0 ts
+-- The reader goes past one token.
+pub record Takes (s : Sym) (p : ℕ) (a b : Reader) : Type 0 where
+  pub next : left a ≡ tok s p ∷ left b
+  pub same : Same a b
 
-abbrev pub Reads : Level → (Ending → List Tok → Tree → Type 0) → (List Tok → Type 0) → List Item → Reader → Reader → Result ℕ Offence → Type 0
-Reads l R E k a b r = Answer k (λ b n ts t x. Did l R E x b n ts t) a b r
+-- The reader goes past this sign.
+abbrev pub Passes : Sign → Reader → Reader → Type 0
+Passes o a b = (p : ℕ) × Takes (sign o) p a b
 
--- The reader goes past tokens, and enters nothing.
-abbrev pub Expects : Inner → Reader → Reader → Result (Unit {0}) Offence → Type 0
-Expects m a b r = Answer (expect m ∷ []) (λ b u ts t x. (p : ℕ) × (rest : List Tok) × (ts ≡ tok (sign (sign_of m)) p ∷ rest) × State x b rest t) a b r
+-- Whether the reader goes past an operator that comes next.
+abbrev pub Operates : Sign → Reader → Reader → Bool → Type 0
+Operates o a b true = Passes o a b
+Operates o a b false = NotNext o (left b) × (left a ≡ left b) × Same a b
 
-abbrev pub Variables : Reader → Reader → Result ℕ Offence → Type 0
-Variables a b r = Answer (a_variable ∷ []) (λ b v ts t x. (p : ℕ) × (rest : List Tok) × (ts ≡ tok (variable v) p ∷ rest) × State x b rest t) a b r
+-- The reader goes past a variable.
+abbrev pub Variables : Reader → Reader → ℕ → Type 0
+Variables a b v = (p : ℕ) × Takes (variable v) p a b
 
--- The variable of a fixpoint and the dot after it.
-abbrev pub Heads : Reader → Reader → Result ℕ Offence → Type 0
-Heads a b r = Answer (a_variable ∷ expect dot ∷ []) (λ b v ts t x. (p : ℕ) × (q : ℕ) × (rest : List Tok) × (ts ≡ tok (variable v) p ∷ tok (sign Dot) q ∷ rest) × State x b rest t) a b r
+-- The reader goes past the variable of a fixpoint and the dot after it.
+pub record Heads (a b : Reader) (v : ℕ) : Type 0 where
+  pub place : ℕ
+  pub dot_at : ℕ
+  pub next : left a ≡ tok (variable v) place ∷ tok (sign Dot) dot_at ∷ left b
+  pub same : Same a b
 
--- The action of a modality.
-abbrev pub Actions : Reader → Reader → Result ℕ Offence → Type 0
-Actions a b r = Answer (an_action ∷ []) (λ b k ts t x. (w : List ℕ) × (p : ℕ) × (rest : List Tok) × (ts ≡ tok (name w) p ∷ rest) × State x b rest (note (number x.action_names w) p t) × (k ≡ or_0 (number x.action_names w))) a b r
-
--- The token that comes next, with its place. If none comes, the tokens have ended, at the text's end.
-abbrev pub Peeks : Reader → Result Found Offence → Type 0
-Peeks r (Ok f) = (found (sym_of f.token) f.start f.end ≡ cut_at r.text.now r.at) × (r.at < f.end) × (f.end ≤ length r.text.now) × Placed f.token f.start
-Peeks r (Err p) = (x : Source) (ts : List Tok) (t : Tables) → State x r ts t → (ts ≡ []) × (p.0 ≡ length x.text)
-
--- Whether the next token is this operator, and where the text goes on past it.
-abbrev pub Next : Sign → Reader → Option ℕ → Type 0
-Next o r (Some j) = (p : ℕ) × (found (sign o) p j ≡ cut_at r.text.now r.at) × (r.at < j) × (j ≤ length r.text.now)
-Next o r None = (x : Source) (ts : List Tok) (t : Tables) → State x r ts t → NotNext o ts
-
--- The tokens have ended, or go on at a place.
-abbrev pub AtEnd : Reader → Result (Unit {0}) Offence → Type 0
-AtEnd r (Ok u) = (x : Source) (ts : List Tok) (t : Tables) → State x r ts t → ts ≡ []
-AtEnd r (Err p) = (x : Source) (ts : List Tok) (t : Tables) → State x r ts t → (s : Sym) × (rest : List Tok) × (ts ≡ tok s p.0 ∷ rest)
+-- The reader goes past the action of a modality, whose number is k if it has one.
+pub record Actions (a b : Reader) (k : ℕ) : Type 0 where
+  pub action : List ℕ
+  pub place : ℕ
+  pub next : left a ≡ tok (name action) place ∷ left b
+  pub notes : (x : Source) (t : Tables) → State x a t → State x b (note (number x.action_names action) place t) × (k ≡ or_0 (number x.action_names action))

@@ -1,5 +1,6 @@
 -- The numbers of refusals and their values.
 use Rattle.std.specs.Prelude.{ℕ, Ok, Err, Result}
+use Rattle.lexer.specs.declared.NoToken.{NoToken}
 use Rattle.reader.specs.declared.refusals.Offence.{Offence}
 use Rattle.reader.specs.declared.refusals.Refusal.{Refusal}
 use Rattle.reader.specs.declared.refusals.Refusal.TheVariants as rf
@@ -34,3 +35,7 @@ answer_value (Err r) = refusal_value r
 -- A place from which a text cannot go on is that of a refusal.
 abbrev pub offence_refusal : Offence → Refusal
 offence_refusal o = rf.NoFormula o.0
+
+-- So is a place where no token begins.
+abbrev pub unread_refusal : NoToken → Refusal
+unread_refusal n = rf.NoToken n.0

@@ -1,72 +1,46 @@
-// Reads a formula text into an expression table and a formula table.
+//! Reads a formula text into an expression table and a formula table.
 #![tactic(auto)]
 
+mod entries;
 mod parser;
 mod refusals;
-mod shapes;
 mod tables;
+mod vocabulary;
 
-ghost use Rattle.std.specs.Prelude.{◌≡◌, ◌≤◌, length, replicate};
-ghost use Rattle.reader.specs.Outcome.{Lexed, Attempted, Reading, answer_number, answer_value};
+ghost use Rattle.std.specs.Prelude.{◌≡◌, ◌≤◌, ℕ, List, length, replicate};
+ghost use Rattle.reader.specs.Outcome.{Attempted, Reading, answer_number, answer_value};
+ghost use Rattle.reader.specs.Vocabularies.{Knows};
 ghost use Rattle.formulas.specs.declared.Expr.TheVariants as ex;
 ghost use Rattle.formulas.specs.declared.Node.TheVariants as nd;
 
-use families::MAX_ACTION;
-use formulas::judge::{MAX_ENTRIES, MAX_FEATURE};
+use formulas::judge::MAX_ENTRIES;
 use formulas::{Expr, Node};
-use lexer::{Stop, next_token};
+pub use lexer::LONGEST_TEXT;
+use lexer::Text;
 use parser::parse;
 pub use refusals::Refusal;
-use words::Names;
+pub use vocabulary::{MAX_ACTIONS, MAX_FEATURES, Vocabulary};
 
-// How many bytes a text has at most.
-pub const LONGEST_TEXT: usize = 1024;
-
-// How many names the two word lists have at most.
-pub const MAX_ACTIONS: u8 = MAX_ACTION + 1;
-
-pub const MAX_FEATURES: u8 = MAX_FEATURE + 1;
-
-// Refuses a text at the first place where no token begins, or a name that is too long.
-fn check_tokens(text: &[u8]) -> Result<(), Refusal>
-    ensures { Lexed text.now result }
-{
-    // Each turn goes on where the last token ended; an iterator of tokens would keep the same place.
-    let mut at = 0;
-    loop {
-        match next_token(text, at) {
-            Ok(found) => at = found.end,
-            Err(Stop::End(_place)) => return Ok(()),
-            Err(Stop::Bad(place)) => return Err(Refusal::NoToken(place)),
-        }
-    }
-}
-
-// Tries to read a text into tables that are all false. The parameters are those of `read`, and go on to `parse`: a struct of
-// them would be made once and taken apart once.
+// Tries to read a text into tables that are all false. There are no names where a word list breaks its form.
 fn attempt(
     text: &[u8],
-    actions: &[u8],
-    features: &[u8],
+    names: Option<Vocabulary>,
     exprs: &mut [Expr],
     nodes: &mut [Node],
 ) -> Result<usize, Refusal>
     requires exprs { exprs.old ≡ replicate (length exprs.old) ex.False }
     requires nodes { nodes.old ≡ replicate (length nodes.old) nd.False }
     requires room { (64 ≤ length exprs.old) × (64 ≤ length nodes.old) }
-    ensures { Attempted text.now actions.now features.now (length exprs.old) (length nodes.old) exprs.new nodes.new result }
+    ensures { (actions features : List ℕ) → Knows actions features names.entry → Attempted text.now actions features (length exprs.old) (length nodes.old) exprs.new nodes.new result }
 {
-    if text.len() > LONGEST_TEXT {
+    let Some(text) = Text::new(text) else {
         return Err(Refusal::LongText);
-    }
-    let Some(action_names) = Names::new(actions, MAX_ACTIONS) else {
+    };
+    let Some(names) = names else {
         return Err(Refusal::WordList);
     };
-    let Some(feature_names) = Names::new(features, MAX_FEATURES) else {
-        return Err(Refusal::WordList);
-    };
-    check_tokens(text)?;
-    parse(text, action_names, feature_names, exprs, nodes)
+    let tokens = text.tokens()?;
+    parse(tokens.as_slice(), text.len(), names, exprs, nodes)
 }
 
 // Makes every entry of both tables false.
@@ -78,7 +52,27 @@ fn clear(exprs: &mut [Expr], nodes: &mut [Node])
     nodes.fill(Node::False);
 }
 
-// Reads a formula text into both tables, with the names of two word lists. The answer is the count of formula entries.
+// Reads a text, or says what refuses it. There are no names where a word list breaks its form.
+fn read_or_clear(
+    text: &[u8],
+    names: Option<Vocabulary>,
+    exprs: &mut [Expr],
+    nodes: &mut [Node],
+) -> Result<usize, Refusal>
+    ensures { (actions features : List ℕ) → Knows actions features names.entry → Reading text.now actions features exprs.old nodes.old (answer_number result) (answer_value result) exprs.new nodes.new }
+{
+    if exprs.len() < MAX_ENTRIES || nodes.len() < MAX_ENTRIES {
+        return Err(Refusal::ShortTable);
+    }
+    clear(exprs, nodes);
+    let answer = attempt(text, names, exprs, nodes);
+    if answer.is_err() {
+        clear(exprs, nodes);
+    }
+    answer
+}
+
+/// Reads a formula text into both tables, with the names of two word lists. The answer is the count of formula entries.
 pub fn read(
     text: &[u8],
     actions: &[u8],
@@ -88,13 +82,17 @@ pub fn read(
 ) -> Result<usize, Refusal>
     ensures { Reading text.now actions.now features.now exprs.old nodes.old (answer_number result) (answer_value result) exprs.new nodes.new }
 {
-    if exprs.len() < MAX_ENTRIES || nodes.len() < MAX_ENTRIES {
-        return Err(Refusal::ShortTable);
-    }
-    clear(exprs, nodes);
-    let answer = attempt(text, actions, features, exprs, nodes);
-    if answer.is_err() {
-        clear(exprs, nodes);
-    }
-    answer
+    read_or_clear(text, Vocabulary::new(actions, features), exprs, nodes)
+}
+
+/// Reads a formula text as `read` does, with the names of word lists that were checked before.
+pub fn read_with(
+    text: &[u8],
+    names: Vocabulary,
+    exprs: &mut [Expr],
+    nodes: &mut [Node],
+) -> Result<usize, Refusal>
+    ensures { Reading text.now names.entry.actions.list.now names.entry.features.list.now exprs.old nodes.old (answer_number result) (answer_value result) exprs.new nodes.new }
+{
+    read_or_clear(text, Some(names), exprs, nodes)
 }

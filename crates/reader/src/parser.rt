@@ -1,33 +1,35 @@
 // The parser: it enters the entries of a formula while it goes through the tokens.
-ghost use Rattle.std.specs.Prelude.{◌≡◌, ◌≢◌, ◌↔◌, T, ℕ, List, [], ◌∷◌, MatchResult, ⊤};
-ghost use Rattle.lexer.specs.Tokens.{sign};
-ghost use Rattle.lexer.specs.Cuts.{sym_of};
-ghost use Rattle.grammar.specs.Grammar.{Tok, Modality, Fixpoint, opening, closing, word, UnitOf, AndPartOf, PhraseOf};
+ghost use Rattle.std.specs.Prelude.{◌≡◌, ◌≢◌, ◌≤◌, ◌↔◌, IsTrue, ℕ, List, [], ◌∷◌, MatchResult, IfOk, ◌+◌, length};
+ghost use Rattle.lexer.specs.Tokens.{Sym, Tok, tok, sign};
+ghost use Rattle.lexer.specs.Cuts.{sym_of, place_of};
+ghost use Rattle.lexer.specs.Texts.{toks};
+ghost use Rattle.grammar.specs.Grammar.{Modality, Fixpoint, opening, closing, word, UnitOf, AndPartOf, PhraseOf};
 ghost use Rattle.grammar.specs.declared.Level.TheVariants.{Formula as at_formula, Expression as at_expression};
-ghost use Rattle.grammar.specs.Machine.{Inner, sign_of, unit as a_unit, and_tail, or_tail, Any, NotNext, Stops};
-ghost use Rattle.lexer.specs.declared.Sign.TheVariants.{And, Dot};
+ghost use Rattle.grammar.specs.Machine.{Inner, sign_of, unit as a_unit, and_tail, or_tail, expect as expected, a_variable, an_action, dot, Any, NotNext, Stops};
+ghost use Rattle.lexer.specs.declared.Sign.TheVariants.{And};
 ghost use Rattle.reader.specs.Numbering.{Tables, none_entered, put, put_node, put_expr, modal_node, fixpoint_node, or_0};
 ghost use Rattle.reader.specs.Outcome.{Ready, Parsed, Judged};
-ghost use Rattle.reader.specs.Reading.{Source, State, Peeks, Inside, SameTables, Keeps, Grows, Onto, Enters, Features, Reads, Expects, Variables, Actions, Heads, Next, Notes, AtEnd};
+ghost use Rattle.reader.specs.Reading.{Source, State, left, Inside, SameTables, Keeps, Grows, Onto, Enters, feature_at, Notes, Did, Stuck, Takes, Passes, Operates, Variables, Heads, Actions};
 
+use crate::entries::expr_of;
 use crate::refusals::{Offence, Refusal};
-use crate::shapes::Shape;
 use crate::tables::Table;
+use crate::vocabulary::Vocabulary;
 use formulas::judge::MAX_ENTRIES;
 use formulas::{Expr, Node};
 use grammar::Level;
-use lexer::{Found, Sign, Stop, Token, next_token};
-use words::Names;
+use lexer::{Sign, Token};
 
-// Reads a text that falls into tokens into tables that are all false.
-pub fn parse<'t>(
-    text: &'t [u8],
-    actions: Names<'t>,
-    features: Names<'t>,
+// Reads the tokens of a text of a length into tables that are all false.
+pub fn parse(
+    tokens: &[Token],
+    end: usize,
+    names: Vocabulary,
     exprs: &mut [Expr],
     nodes: &mut [Node],
 ) -> Result<usize, Refusal>
-    ensures { (x : Source) (ts : List Tok) → Ready x ts text.now actions.entry.list.now features.entry.list.now exprs.old nodes.old → Parsed x ts exprs.new nodes.new result }
+    requires { length tokens.now ≤ 1024 }
+    ensures { (x : Source) → Ready x names.entry exprs.old nodes.old → Parsed x end (toks tokens.now) exprs.new nodes.new result }
 {
     let mut exprs = Table {
         entries: exprs,
@@ -38,37 +40,35 @@ pub fn parse<'t>(
         count: 0,
     };
     let mut reader = Reader {
-        text,
-        actions,
-        features,
+        tokens,
+        end,
+        names,
         exprs: &mut exprs,
         nodes: &mut nodes,
-        at: 0,
         unknown: None,
     };
     reader.whole()
 }
 
-// A reader at a place of the text. `unknown` is the place of the first unknown name. That it is within its text and has
-// entered no more than it has read (`Inside`) is no invariant of it: entering an entry may end that until it goes on.
+// A reader of the tokens that are left, of a text of the length `end`. `unknown` is the place of the first unknown name.
+// That it has entered no more than it has read (`Inside`) is no invariant: an entry is made after its token is read.
 #[derive(Drop)]
-struct Reader<'t, 'x, 'e, 'y, 'n> {
-    text: &'t [u8],
-    actions: Names<'t>,
-    features: Names<'t>,
+struct Reader<'k, 't, 'w, 'x, 'e, 'y, 'n> {
+    tokens: &'k [Token<'t>],
+    end: usize,
+    names: Vocabulary<'w>,
     exprs: &'x mut Table<'e, Expr>,
     nodes: &'y mut Table<'n, Node>,
-    at: usize,
     unknown: Option<usize>,
 }
 
-impl<'t, 'x, 'e, 'y, 'n> Reader<'t, 'x, 'e, 'y, 'n> {
-    // Enters a formula entry and answers its number. One function for each table, as each has its own clause.
+impl<'k, 't, 'w, 'x, 'e, 'y, 'n> Reader<'k, 't, 'w, 'x, 'e, 'y, 'n> {
+    // Enters a formula entry and answers its number.
     fn enter_node(&mut self, node: Node) -> usize
         requires { Inside self.old }
         ensures keeps { Keeps self.old self.new }
         ensures grows { Grows self.old self.new }
-        ensures enters { Enters at_formula (put_node node) self.old self.new result }
+        ensures enters { Enters at_formula (λ x. put_node node) self.old self.new result }
     {
         self.nodes.enter(node)
     }
@@ -78,21 +78,21 @@ impl<'t, 'x, 'e, 'y, 'n> Reader<'t, 'x, 'e, 'y, 'n> {
         requires { Inside self.old }
         ensures keeps { Keeps self.old self.new }
         ensures grows { Grows self.old self.new }
-        ensures enters { Enters at_expression (put_expr expr) self.old self.new result }
+        ensures enters { Enters at_expression (λ x. put_expr expr) self.old self.new result }
     {
         self.exprs.enter(expr)
     }
 
     // Enters an entry that both tables have into the one of a level.
-    fn enter(&mut self, level: Level, shape: Shape) -> usize
+    fn enter(&mut self, level: Level, node: Node) -> usize
         requires { Inside self.old }
         ensures keeps { Keeps self.old self.new }
         ensures grows { Grows self.old self.new }
-        ensures enters { Enters level (put level shape) self.old self.new result }
+        ensures enters { Enters level (λ x. put level node) self.old self.new result }
     {
         match level {
-            Level::Formula => self.enter_node(Node::from(shape)),
-            Level::Expression => self.enter_expr(Expr::from(shape)),
+            Level::Formula => self.enter_node(node),
+            Level::Expression => self.enter_expr(expr_of(node)),
         }
     }
 
@@ -104,10 +104,13 @@ impl<'t, 'x, 'e, 'y, 'n> Reader<'t, 'x, 'e, 'y, 'n> {
         ensures notes { Notes found place self.old self.new }
         ensures value { result ≡ or_0 found }
     {
-        if found.is_none() {
-            self.unknown = self.unknown.or(Some(place));
+        match found {
+            Some(number) => number,
+            None => {
+                self.unknown = self.unknown.or(Some(place));
+                0
+            }
         }
-        found.unwrap_or(0)
     }
 
     // Enters a feature's name, which is a unit of expressions alone.
@@ -115,108 +118,109 @@ impl<'t, 'x, 'e, 'y, 'n> Reader<'t, 'x, 'e, 'y, 'n> {
         requires { Inside self.old }
         ensures keeps { Keeps self.old self.new }
         ensures grows { Grows self.old self.new }
-        ensures enters { Features level name.now place self.old self.new result }
+        ensures enters { MatchResult result (λ n. (level ≡ at_expression) × Enters at_expression (feature_at name.now place) self.old self.new n) (λ o. (level ≢ at_expression) × (o.0 ≡ place)) }
     {
         only_at(Level::Expression, level, place)?;
-        let found = self.features.number(name);
+        let found = self.names.features.number(name);
         let k = self.number(found, place);
         Ok(self.enter_expr(Expr::Feature(k)))
     }
 
-    // The token that comes next; the end of the text offends as a bad byte does.
-    fn peek(&self) -> Result<Found<'t>, Offence>
-        requires { Inside self.now }
-        ensures { Peeks self.now result }
+    // Goes past the token that comes next; where none is left, the text's end offends.
+    fn take(&mut self) -> Result<Token<'t>, Offence>
+        ensures onto { Onto self.old self.new }
+        ensures fewer { IfOk result (λ t. length self.new.tokens.now + 1 ≡ length self.old.tokens.now) }
+        ensures same_tables { (self.new.nodes ≡ self.old.nodes) × (self.new.exprs ≡ self.old.exprs) }
+        ensures takes { MatchResult result (λ t. Takes (sym_of t) (place_of t) self.old self.new) (λ o. (left self.old ≡ []) × (o.0 ≡ self.old.end)) }
     {
-        match next_token(self.text, self.at) {
-            Ok(found) => Ok(found),
-            Err(Stop::End(place)) => Err(Offence(place)),
-            Err(Stop::Bad(place)) => Err(Offence(place)),
+        let tokens = self.tokens;
+        match tokens.first() {
+            Some(token) => {
+                self.tokens = &tokens[1..];
+                Ok(*token)
+            }
+            None => Err(Offence(self.end)),
         }
     }
 
     // Goes past a sign that has to come next.
     fn expect(&mut self, wanted: Sign) -> Result<(), Offence>
-        requires { Inside self.old }
         ensures onto { Onto self.old self.new }
-        ensures reads { (m : Inner) → wanted ≡ sign_of m → Expects m self.old self.new result }
+        ensures reads { (m : Inner) → wanted ≡ sign_of m → MatchResult result (λ _. Passes wanted self.old self.new) (λ o. Stuck (expected m ∷ []) self.old o.0) }
     {
-        let Found { token, start, end } = self.peek()?;
-        if !is_sign(token, wanted) {
-            return Err(Offence(start));
+        let token = self.take()?;
+        if is_sign(token, wanted) {
+            Ok(())
+        } else {
+            Err(Offence(token.place()))
         }
-        self.at = end;
-        Ok(())
     }
 
-    // Where the text goes on past an operator that comes next.
-    fn operator(&self, wanted: Sign) -> Option<usize>
-        requires { Inside self.now }
-        ensures { Next wanted self.now result }
+    // Goes past an operator if it comes next, and says whether it does.
+    fn operator(&mut self, wanted: Sign) -> bool
+        ensures onto { Onto self.old self.new }
+        ensures fewer { IsTrue result → length self.new.tokens.now + 1 ≡ length self.old.tokens.now }
+        ensures same_tables { (self.new.nodes ≡ self.old.nodes) × (self.new.exprs ≡ self.old.exprs) }
+        ensures operates { Operates wanted self.old self.new result }
     {
-        let Ok(Found { token, end, .. }) = self.peek() else {
-            return None;
+        let tokens = self.tokens;
+        let Some(token) = tokens.first() else {
+            return false;
         };
-        if is_sign(token, wanted) {
-            Some(end)
-        } else {
-            None
+        if !is_sign(*token, wanted) {
+            return false;
         }
+        self.tokens = &tokens[1..];
+        true
     }
 
     fn variable(&mut self) -> Result<u8, Offence>
-        requires { Inside self.old }
         ensures onto { Onto self.old self.new }
-        ensures reads { Variables self.old self.new result }
+        ensures reads { MatchResult result (Variables self.old self.new) (λ o. Stuck (a_variable ∷ []) self.old o.0) }
     {
-        let Found { token, start, end } = self.peek()?;
-        let Token::Variable(v) = token else {
-            return Err(Offence(start));
+        let token = self.take()?;
+        let Token::Variable(v, _place) = token else {
+            return Err(Offence(token.place()));
         };
-        self.at = end;
         Ok(v)
     }
 
     // The number of an action's name.
     fn action(&mut self) -> Result<u8, Offence>
-        requires { Inside self.old }
         ensures onto { Onto self.old self.new }
-        ensures reads { Actions self.old self.new result }
+        ensures reads { MatchResult result (Actions self.old self.new) (λ o. Stuck (an_action ∷ []) self.old o.0) }
     {
-        let Found { token, start, end } = self.peek()?;
+        let token = self.take()?;
         let Token::Name(name, place) = token else {
-            return Err(Offence(start));
+            return Err(Offence(token.place()));
         };
-        self.at = end;
-        let found = self.actions.number(name);
+        let found = self.names.actions.number(name);
         Ok(self.number(found, place))
     }
 
     // The variable of a fixpoint and the dot after it.
     fn fixpoint_head(&mut self) -> Result<u8, Offence>
-        requires { Inside self.old }
         ensures onto { Onto self.old self.new }
-        ensures reads { Heads self.old self.new result }
+        ensures reads { MatchResult result (Heads self.old self.new) (λ o. Stuck (a_variable ∷ expected dot ∷ []) self.old o.0) }
     {
         let v = self.variable()?;
         self.expect(Sign::Dot)?;
         Ok(v)
     }
 
-    // Phrase, and-part and unit call one another, at either level; each cycle takes a token.
+    // Phrase, and-part and unit call one another, at either level; in each cycle the tokens left are fewer.
 
     // A formula, or an expression: and-parts joined by `||`. The answer is the number of its entry.
     #[cycle(phrase)]
     fn phrase(&mut self, level: Level) -> Result<usize, Offence>
         requires { Inside self.old }
         ensures onto { Onto self.old self.new }
-        ensures reads { Reads level (PhraseOf level) Stops (a_unit level ∷ and_tail level ∷ or_tail level ∷ []) self.old self.new result }
+        ensures reads { MatchResult result (Did level (PhraseOf level) Stops self.old self.new) (λ o. Stuck (a_unit level ∷ and_tail level ∷ or_tail level ∷ []) self.old o.0) }
     {
         let mut left = self.and_part(level)?;
-        while let Some(on) = self.operator(Sign::Or) {
-            self.at = on;
+        while self.operator(Sign::Or) {
             let right = self.and_part(level)?;
-            left = self.enter(level, Shape::Or(left, right));
+            left = self.enter(level, Node::Or(left, right));
         }
         Ok(left)
     }
@@ -226,13 +230,12 @@ impl<'t, 'x, 'e, 'y, 'n> Reader<'t, 'x, 'e, 'y, 'n> {
     fn and_part(&mut self, level: Level) -> Result<usize, Offence>
         requires { Inside self.old }
         ensures onto { Onto self.old self.new }
-        ensures reads { Reads level (AndPartOf level) (NotNext And) (a_unit level ∷ and_tail level ∷ []) self.old self.new result }
+        ensures reads { MatchResult result (Did level (AndPartOf level) (NotNext And) self.old self.new) (λ o. Stuck (a_unit level ∷ and_tail level ∷ []) self.old o.0) }
     {
         let mut left = self.unit(level)?;
-        while let Some(on) = self.operator(Sign::And) {
-            self.at = on;
+        while self.operator(Sign::And) {
             let right = self.unit(level)?;
-            left = self.enter(level, Shape::And(left, right));
+            left = self.enter(level, Node::And(left, right));
         }
         Ok(left)
     }
@@ -241,22 +244,21 @@ impl<'t, 'x, 'e, 'y, 'n> Reader<'t, 'x, 'e, 'y, 'n> {
     fn unit(&mut self, level: Level) -> Result<usize, Offence>
         requires { Inside self.old }
         ensures onto { Onto self.old self.new }
-        ensures reads { Reads level (UnitOf level) Any (a_unit level ∷ []) self.old self.new result }
+        ensures reads { MatchResult result (Did level (UnitOf level) Any self.old self.new) (λ o. Stuck (a_unit level ∷ []) self.old o.0) }
     {
-        let Found { token, start, end } = self.peek()?;
-        self.at = end;
+        let token = self.take()?;
         match token {
             Token::Name(name, place) => self.feature(level, name, place),
-            Token::Variable(v) => {
-                only_at(Level::Formula, level, start)?;
+            Token::Variable(v, place) => {
+                only_at(Level::Formula, level, place)?;
                 Ok(self.enter_node(Node::Variable(v)))
             }
-            Token::Sign(sign) => match sign {
-                Sign::True => Ok(self.enter(level, Shape::True)),
-                Sign::False => Ok(self.enter(level, Shape::False)),
+            Token::Sign(sign, place) => match sign {
+                Sign::True => Ok(self.enter(level, Node::True)),
+                Sign::False => Ok(self.enter(level, Node::False)),
                 Sign::Not => {
                     let part = self.unit(level)?;
-                    Ok(self.enter(level, Shape::Not(part)))
+                    Ok(self.enter(level, Node::Not(part)))
                 }
                 Sign::Open => {
                     let whole = self.phrase(level)?;
@@ -264,7 +266,7 @@ impl<'t, 'x, 'e, 'y, 'n> Reader<'t, 'x, 'e, 'y, 'n> {
                     Ok(whole)
                 }
                 Sign::Less | Sign::LeftBracket => {
-                    only_at(Level::Formula, level, start)?;
+                    only_at(Level::Formula, level, place)?;
                     let action = self.action()?;
                     self.expect(Sign::Bar)?;
                     let expr = self.phrase(Level::Expression)?;
@@ -273,25 +275,23 @@ impl<'t, 'x, 'e, 'y, 'n> Reader<'t, 'x, 'e, 'y, 'n> {
                     Ok(self.enter_node(modal_node(sign, action, expr, part)))
                 }
                 Sign::Mu | Sign::Nu => {
-                    only_at(Level::Formula, level, start)?;
+                    only_at(Level::Formula, level, place)?;
                     let v = self.fixpoint_head()?;
                     let body = self.phrase(level)?;
                     Ok(self.enter_node(fixpoint_node(sign, v, body)))
                 }
-                _ => Err(Offence(start)),
+                _ => Err(Offence(place)),
             },
         }
     }
 
-    // Refuses a text that goes on.
+    // Refuses tokens that go on.
     fn end(&self) -> Result<(), Offence>
-        requires { Inside self.now }
-        ensures { AtEnd self.now result }
+        ensures { MatchResult result (λ _. left self.now ≡ []) (λ o. (s : Sym) × (rest : List Tok) × (left self.now ≡ tok s o.0 ∷ rest)) }
     {
-        match next_token(self.text, self.at) {
-            Ok(found) => Err(Offence(found.start)),
-            Err(Stop::End(_place)) => Ok(()),
-            Err(Stop::Bad(place)) => Err(Offence(place)),
+        match self.tokens.first() {
+            Some(token) => Err(Offence(token.place())),
+            None => Ok(()),
         }
     }
 
@@ -299,7 +299,7 @@ impl<'t, 'x, 'e, 'y, 'n> Reader<'t, 'x, 'e, 'y, 'n> {
     fn whole(&mut self) -> Result<usize, Refusal>
         requires { Inside self.old }
         ensures tables { SameTables self.old self.new }
-        ensures parses { (x : Source) (ts : List Tok) → State x self.old ts none_entered → Parsed x ts self.new.exprs.now.entries.now self.new.nodes.now.entries.now result }
+        ensures parses { (x : Source) → State x self.old none_entered → Parsed x self.old.end (left self.old) self.new.exprs.now.entries.now self.new.nodes.now.entries.now result }
     {
         self.phrase(Level::Formula)?;
         self.end()?;
@@ -308,7 +308,7 @@ impl<'t, 'x, 'e, 'y, 'n> Reader<'t, 'x, 'e, 'y, 'n> {
 
     // What is wrong with a formula whose tokens are in order.
     fn verdict(&self) -> Result<usize, Refusal>
-        ensures { (x : Source) (ts : List Tok) (t : Tables) → State x self.now ts t → Judged t result }
+        ensures { (x : Source) (t : Tables) → State x self.now t → Judged t result }
     {
         if let Some(place) = self.unknown {
             return Err(Refusal::UnknownName(place));
@@ -322,9 +322,9 @@ impl<'t, 'x, 'e, 'y, 'n> Reader<'t, 'x, 'e, 'y, 'n> {
 
 // Whether a token is this sign.
 fn is_sign(token: Token, wanted: Sign) -> bool
-    ensures { T result ↔ (sym_of token.entry ≡ sign wanted) }
+    ensures { IsTrue result ↔ (sym_of token.entry ≡ sign wanted) }
 {
-    matches!(token, Token::Sign(sign) if sign == wanted)
+    matches!(token, Token::Sign(sign, _) if sign == wanted)
 }
 
 // Refuses a token that begins units of one level alone, at the other.

@@ -1,8 +1,10 @@
 // Refusals of texts, and their numbers.
 ghost use Rattle.std.specs.Prelude.{◌≡◌};
-ghost use Rattle.reader.specs.Refusals.{refusal_number, refusal_value, offence_refusal};
+ghost use Rattle.reader.specs.Refusals.{refusal_number, refusal_value, offence_refusal, unread_refusal};
 
-// Why a text is refused. A place is that of a byte of the text, or of its end.
+use lexer::NoToken;
+
+/// Why a text is refused. A place is that of a byte of the text, or of its end.
 #[derive(Clone, Copy, Debug, PartialEq, Eq)]
 pub enum Refusal {
     ShortTable,
@@ -14,7 +16,7 @@ pub enum Refusal {
     TooManyEntries,
 }
 
-// The refusal's number and its value, which is a place if it has one.
+/// The refusal's number and its value, which is a place if it has one.
 impl From<Refusal> for (u8, usize) {
     ghost from_gives = { λ r a. a ≡ (refusal_number r, refusal_value r) };
 
@@ -31,7 +33,7 @@ impl From<Refusal> for (u8, usize) {
     }
 }
 
-// The place from which a text cannot go on to a formula.
+/// The place from which a text cannot go on to a formula.
 #[derive(Clone, Copy, Debug, PartialEq, Eq)]
 pub struct Offence(pub usize);
 
@@ -40,5 +42,13 @@ impl From<Offence> for Refusal {
 
     fn from(offence: Offence) -> Refusal {
         Refusal::NoFormula(offence.0)
+    }
+}
+
+impl From<NoToken> for Refusal {
+    ghost from_gives = { λ n r. r ≡ unread_refusal n };
+
+    fn from(bad: NoToken) -> Refusal {
+        Refusal::NoToken(bad.0)
     }
 }

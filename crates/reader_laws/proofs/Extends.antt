@@ -5,9 +5,9 @@ use Rattle.grammar.specs.Grammar.{Tree, bottom, top, negation, disjunction, conj
 use Rattle.grammar.specs.declared.Level.{Level}
 use Rattle.grammar.specs.declared.Level.TheVariants.{Formula as formula, Expression as expression}
 use Rattle.reader.specs.Numbering.{Tables, note, put, enter}
-use Rattle.reader.specs.declared.shapes.Shape.{Shape}
-use Rattle.reader.specs.Shapes.{as_node, as_expr}
-use Rattle.reader.specs.declared.shapes.Shape.TheVariants as sh
+use Rattle.formulas.specs.declared.Node.{Node}
+use Rattle.formulas.specs.declared.Node.TheVariants as nd
+use Rattle.reader.specs.Shapes.{as_expr}
 
 pub record Extends {X : Type 0} (xs zs : List X) : Type 0 where
   pub rest : List X
@@ -39,16 +39,16 @@ abbrev pub count : Level → Tables → ℕ
 count formula t = length t.nodes
 count expression t = length t.exprs
 
-put_exprs : (l : Level) (s : Shape) (t : Tables) → Extends t.exprs (put l s t).exprs
+put_exprs : (l : Level) (s : Node) (t : Tables) → Extends t.exprs (put l s t).exprs
 put_exprs formula s t = same t.exprs
 put_exprs expression s t = pushed t.exprs _
 
-put_nodes : (l : Level) (s : Shape) (t : Tables) → Extends t.nodes (put l s t).nodes
+put_nodes : (l : Level) (s : Node) (t : Tables) → Extends t.nodes (put l s t).nodes
 put_nodes formula s t = pushed t.nodes _
 put_nodes expression s t = same t.nodes
 
-put_count : (l : Level) (s : Shape) (t : Tables) → 0 < count l (put l s t)
-put_count formula s t = omega (arith, length_push t.nodes (as_node s))
+put_count : (l : Level) (s : Node) (t : Tables) → 0 < count l (put l s t)
+put_count formula s t = omega (arith, length_push t.nodes s)
 put_count expression s t = omega (arith, length_push t.exprs (as_expr s))
 
 pub note_exprs : (o : Option ℕ) (p : ℕ) (t : Tables) → (note o p t).exprs ≡ t.exprs
@@ -64,8 +64,8 @@ equal {X} {xs} {ys} e = record { rest = []; is = e ∙ sym (append-nil ys) }
 
 module _ (action feat : List ℕ → Option ℕ) where
   pub enter_exprs : (l : Level) (a : Tree) (t : Tables) → Extends t.exprs (enter action feat l a t).exprs
-  enter_exprs l bottom t = put_exprs l sh.False t
-  enter_exprs l top t = put_exprs l sh.True t
+  enter_exprs l bottom t = put_exprs l nd.False t
+  enter_exprs l top t = put_exprs l nd.True t
   enter_exprs l (negation a) t = through (enter_exprs l a t) (put_exprs l _ (enter action feat l a t))
   enter_exprs l (disjunction a b) t = through (enter_exprs l a t) (through (enter_exprs l b (enter action feat l a t)) (put_exprs l _ (enter action feat l b (enter action feat l a t))))
   enter_exprs l (conjunction a b) t = through (enter_exprs l a t) (through (enter_exprs l b (enter action feat l a t)) (put_exprs l _ (enter action feat l b (enter action feat l a t))))
@@ -79,8 +79,8 @@ module _ (action feat : List ℕ → Option ℕ) where
   enter_exprs expression (fixpoint x v a) t = pushed t.exprs _
 
   pub enter_nodes : (l : Level) (a : Tree) (t : Tables) → Extends t.nodes (enter action feat l a t).nodes
-  enter_nodes l bottom t = put_nodes l sh.False t
-  enter_nodes l top t = put_nodes l sh.True t
+  enter_nodes l bottom t = put_nodes l nd.False t
+  enter_nodes l top t = put_nodes l nd.True t
   enter_nodes l (negation a) t = through (enter_nodes l a t) (put_nodes l _ (enter action feat l a t))
   enter_nodes l (disjunction a b) t = through (enter_nodes l a t) (through (enter_nodes l b (enter action feat l a t)) (put_nodes l _ (enter action feat l b (enter action feat l a t))))
   enter_nodes l (conjunction a b) t = through (enter_nodes l a t) (through (enter_nodes l b (enter action feat l a t)) (put_nodes l _ (enter action feat l b (enter action feat l a t))))
@@ -95,16 +95,16 @@ module _ (action feat : List ℕ → Option ℕ) where
 
   -- a tree has an entry
   pub enter_some : (l : Level) (a : Tree) (t : Tables) → 0 < count l (enter action feat l a t)
-  enter_some l bottom t = put_count l sh.False t
-  enter_some l top t = put_count l sh.True t
+  enter_some l bottom t = put_count l nd.False t
+  enter_some l top t = put_count l nd.True t
   enter_some l (negation a) t = put_count l _ (enter action feat l a t)
   enter_some l (disjunction a b) t = put_count l _ (enter action feat l b (enter action feat l a t))
   enter_some l (conjunction a b) t = put_count l _ (enter action feat l b (enter action feat l a t))
-  enter_some formula (feature w p) t = put_count formula sh.False t
+  enter_some formula (feature w p) t = put_count formula nd.False t
   enter_some expression (feature w p) t = push_some (note (feat w) p t).exprs _
   enter_some formula (var v) t = push_some t.nodes _
-  enter_some expression (var v) t = put_count expression sh.False t
+  enter_some expression (var v) t = put_count expression nd.False t
   enter_some formula (modal m w p e a) t = push_some (enter action feat formula a (enter action feat expression e (note (action w) p t))).nodes _
-  enter_some expression (modal m w p e a) t = put_count expression sh.False t
+  enter_some expression (modal m w p e a) t = put_count expression nd.False t
   enter_some formula (fixpoint x v a) t = push_some (enter action feat formula a t).nodes _
-  enter_some expression (fixpoint x v a) t = put_count expression sh.False t
+  enter_some expression (fixpoint x v a) t = put_count expression nd.False t

@@ -7,12 +7,12 @@ use Rattle.formulas.specs.declared.Expr.{Expr}
 use Rattle.formulas.specs.declared.Expr.TheVariants as ex
 use Rattle.formulas.specs.declared.Node.{Node}
 use Rattle.formulas.specs.declared.Node.TheVariants as nd
-use Rattle.lexer.specs.Tokens.{IsToken}
-use Rattle.grammar.specs.Grammar.{Tok, tok, Modality, diamond, box, Fixpoint, least, greatest, Tree, bottom, top, negation, disjunction, conjunction, feature, var, modal, fixpoint, Ending, UnitOf, is_true, is_false, is_not, is_parens, is_feature, is_variable, is_modal, is_fixpoint, AndPartOf, one_unit, more_units, PhraseOf, one_part, more_parts}
+use Rattle.lexer.specs.Tokens.{IsToken, Tok, tok}
+use Rattle.grammar.specs.Grammar.{Modality, diamond, box, Fixpoint, least, greatest, Tree, bottom, top, negation, disjunction, conjunction, feature, var, modal, fixpoint, Ending, UnitOf, is_true, is_false, is_not, is_parens, is_feature, is_variable, is_modal, is_fixpoint, AndPartOf, one_unit, more_units, PhraseOf, one_part, more_parts}
 use Rattle.grammar.specs.declared.Level.{Level}
 use Rattle.grammar.specs.declared.Level.TheVariants.{Formula as formula, Expression as expression}
 use Rattle.reader.specs.Numbering.{Tables, note, or_0, last, enter, modal_node, fixpoint_node}
-use Rattle.reader.specs.Texts.{TokensOf, no_more, one_more}
+use Rattle.lexer.specs.Texts.{TokensOf, no_more, one_more}
 use Rattle.formulas.specs.Judge.{ExprFitsAt}
 use Rattle.formulas.specs.Sound.{Carries}
 use Rattle.reader_laws.proofs.Extends.{Extends, longer, note_exprs, note_nodes, enter_exprs, enter_some}

@@ -6,12 +6,13 @@ use Rattle.formulas.specs.declared.Expr.{Expr}
 use Rattle.formulas.specs.declared.Expr.TheVariants as ex
 use Rattle.formulas.specs.declared.Node.{Node}
 use Rattle.formulas.specs.declared.Node.TheVariants as nd
-use Rattle.grammar.specs.Grammar.{Tok, Tree, FormulaOf}
+use Rattle.lexer.specs.Tokens.{Tok}
+use Rattle.grammar.specs.Grammar.{Tree, FormulaOf}
 use Rattle.grammar.specs.Viable.{Offends}
 use Rattle.grammar.proofs.Prefix.{unambiguous, one_offence}
 use Rattle.reader.specs.Numbering.{Tables}
 use Rattle.reader.specs.Reading.{place_of}
-use Rattle.reader.specs.Texts.{TokensOf}
+use Rattle.lexer.specs.Texts.{TokensOf}
 use Rattle.reader.specs.Outcome.{numbering, Fit, Formed, Tried, long_text, no_words, no_token, no_formula, unknown_name, too_many, accepted, Reading, short_table, tried}
 use Rattle.reader_laws.specs.Results.{OneAnswer}
 use Rattle.reader_laws.proofs.Same.{same_tokens, not_both, same_bad}

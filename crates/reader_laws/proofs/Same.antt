@@ -4,13 +4,12 @@ use Rattle.std.specs.Char.{is_ascii_lowercase}
 use Rattle.std.proofs.lemmas.List.{get_or-drop, get_or-take}
 use Rattle.std.proofs.lemmas.Bool.{cases_order}
 use Rattle.std.proofs.lemmas.Bool.Decides.{nat_tests}
-use Rattle.lexer.specs.Tokens.{Name, Sym, name, variable, sign, spelling, spell, IsToken, At, Longest, Bad, Spaces}
+use Rattle.lexer.specs.Tokens.{Name, Sym, name, variable, sign, spelling, spell, IsToken, At, Longest, Bad, Spaces, Tok, tok}
 use Rattle.lexer.specs.Cuts.{found, first_at}
 use Rattle.lexer.specs.declared.Sign.{Sign}
 use Rattle.lexer.specs.declared.Sign.TheVariants.{Mu, Nu, True, False, Not, And, Or, Bar, Less, Greater, LeftBracket, RightBracket, Open, Close, Dot}
 use Rattle.lexer.proofs.Longest.{some_bytes, token_within}
-use Rattle.grammar.specs.Grammar.{Tok, tok}
-use Rattle.reader.specs.Texts.{TokensOf, no_more, one_more, NoTokenAt, here, later}
+use Rattle.lexer.specs.Texts.{TokensOf, no_more, one_more, NoTokenAt, here, later}
 
 -- ---- one token is spelled in one way
 

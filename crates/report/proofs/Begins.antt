@@ -1,6 +1,7 @@
 -- How a session begins.
-use Rattle.std.proofs.Common.{◌≡◌, ℕ, Bool, true, false, T, ◌↔◌, List, ◌++◌, codes, sym, ap, ◌∙◌, subst}
-use Rattle.words.specs.Words.{InForm}
+use Rattle.std.proofs.Common.{◌≡◌, ℕ, true, false, Some, None, Option, is_some, List, ◌++◌, codes, sym, ap, ◌∙◌, subst, arith}
+use Rattle.reader.specs.Vocabularies.{Knows}
+use Rattle.reader.specs.declared.vocabulary.Vocabulary.{Vocabulary}
 use Rattle.families.specs.Families.{Family}
 use Rattle.book.specs.Rules.{opened}
 use Rattle.book.specs.Loads.{load_answer}
@@ -17,7 +18,15 @@ module _ (family actions features : List ℕ) (f : Family) (fresh : f ≡ opened
   pub by_words : answer.0 ≡ 0 → ¬ Worded actions features → TurnedAway family actions features (codes "words 21 0")
   by_words good bad = bad_words (ap (λ x. x.0) on_opened ∙ good) bad
 
--- A list that is found not to keep its form.
-pub no_form : (b : Bool) {limit : ℕ} {xs ys : List ℕ} → T b ↔ InForm limit xs → xs ≡ ys → b ≡ false → ¬ InForm limit ys
-no_form true i e f = λ _. absurd (subst T f tt)
-no_form false {limit} i e f = λ h. i.1 (subst (InForm limit) (sym e) h)
+-- The word lists that no names are made of, and those of which names are made.
+module _ {xs ys actions features : List ℕ} (a : xs ≡ actions) (f : ys ≡ features) where
+  moved : (o : Option Vocabulary) → Knows xs ys o → Knows actions features o
+  moved o k = subst (λ l. Knows l features o) a (subst (λ l. Knows xs l o) f k)
+
+  pub unworded : (o : Option Vocabulary) → Knows xs ys o → is_some o ≡ false → ¬ Worded actions features
+  unworded (Some v) k e = let z : ◌≡◌ {A = ℕ} 0 1 = cc in absurd (omega arith)
+  unworded None k e = moved None k
+
+  pub worded : (o : Option Vocabulary) → Knows xs ys o → is_some o ≡ true → Worded actions features
+  worded (Some v) k e = (moved (Some v) k).0
+  worded None k e = let z : ◌≡◌ {A = ℕ} 0 1 = cc in absurd (omega arith)

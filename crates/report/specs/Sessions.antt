@@ -1,7 +1,7 @@
 -- How a session begins: with a family and two word lists, or with a line that says why not.
 use Rattle.std.specs.Prelude.{◌≡◌, ℕ, List, ◌++◌, Ok, Err, Result, vec_items, codes}
 use Rattle.families.specs.Families.{Family}
-use Rattle.words.specs.Words.{InForm}
+pub use Rattle.reader.specs.Vocabularies.{Worded}
 use Rattle.book.specs.Rules.{opened}
 use Rattle.book.specs.Loads.{load_answer, load_after}
 use Rattle.book.specs.Contents.{closed_contents}
@@ -18,10 +18,6 @@ actions_of s = vec_items s.actions
 
 abbrev pub features_of : Session → List ℕ
 features_of s = vec_items s.features
-
--- Both word lists keep their form.
-abbrev pub Worded : List ℕ → List ℕ → Type 0
-Worded actions features = InForm 64 actions × InForm 16 features
 
 -- The one line that is written where the load is refused, or else a word list.
 pub data TurnedAway (family actions features : List ℕ) : List ℕ → Type 0 where

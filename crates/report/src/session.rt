@@ -1,9 +1,7 @@
 // A session: a family and two word lists, against which formula texts are checked.
-ghost use Rattle.std.specs.Prelude.{◌≡◌, ◌≤◌, length, IfOk, Some};
+ghost use Rattle.std.specs.Prelude.{◌≡◌, ◌≤◌, length, IfOk, Some, vec_items};
+ghost use Rattle.words.specs.Words.{InForm};
 ghost use Rattle.formulas.specs.Tables.{formula_at, last};
-ghost use Rattle.report.specs.Answers.{Answer, Checked};
-ghost use Rattle.report.specs.Sessions.{Opens, line_of, family_of, actions_of, features_of};
-ghost use Rattle.report.specs.Verdicts.{outcome_of};
 
 use crate::digits::Digits;
 use crate::verdict::Refused;
@@ -12,19 +10,22 @@ use families::{ACCEPTED, MAX_STATES};
 use formulas::judge::MAX_ENTRIES;
 use formulas::{Expr, Node};
 use product_sets::{Kind, Mask};
-use reader::{MAX_ACTIONS, MAX_FEATURES, read};
+use reader::{MAX_ACTIONS, MAX_FEATURES, Vocabulary, read_with};
 use std::alloc::{AllocError, Global};
 use std::fmt;
-use words::keeps_form;
+use words::Names;
 
 // A cell for each entry and state.
 const CELLS: usize = MAX_ENTRIES * MAX_STATES;
 
+// A family, and two word lists that were found to keep their form.
 #[derive(Drop)]
 pub struct Session {
     book: ClosedBook,
     actions: Vec<u8>,
     features: Vec<u8>,
+    ghost action_form: { ∥ InForm 64 (vec_items actions) ∥₁ },
+    ghost feature_form: { ∥ InForm 16 (vec_items features) ∥₁ },
 }
 
 // Why a session does not begin: the refusal of the family file and its value, or word lists that do not keep their form.
@@ -36,6 +37,8 @@ pub enum Unopened {
 
 // The one line that is written then.
 impl fmt::Display for Unopened {
+    ghost use Rattle.report.specs.Sessions.{line_of};
+
     ghost output = { λ u. Some (line_of u) };
 
     fn fmt<W: fmt::Write>(&self, f: &mut fmt::Formatter<W>) -> fmt::Result {
@@ -47,6 +50,10 @@ impl fmt::Display for Unopened {
 }
 
 impl Session {
+    ghost use Rattle.report.specs.Answers.{Answer, Checked};
+    ghost use Rattle.report.specs.Sessions.{Opens, family_of, actions_of, features_of};
+    ghost use Rattle.report.specs.Verdicts.{outcome_of};
+
     // Loads a family file into a book of 64 states and takes over both word lists.
     pub fn open(
         heap: Global,
@@ -61,7 +68,7 @@ impl Session {
         if number != ACCEPTED {
             return Ok(Err(Unopened::Book(number, value)));
         }
-        if !keeps_form(&actions, MAX_ACTIONS) || !keeps_form(&features, MAX_FEATURES) {
+        if Vocabulary::new(&actions, &features).is_none() {
             return Ok(Err(Unopened::Words));
         }
         Ok(Ok(Session {
@@ -71,13 +78,30 @@ impl Session {
         }))
     }
 
+    // The names of both word lists, which were checked when the session was opened.
+    fn names(&self) -> Vocabulary<'_>
+        ensures actions { result.actions.list.now ≡ actions_of self.now }
+        ensures features { result.features.list.now ≡ features_of self.now }
+    {
+        Vocabulary {
+            actions: Names {
+                list: &self.actions,
+                limit: MAX_ACTIONS,
+            },
+            features: Names {
+                list: &self.features,
+                limit: MAX_FEATURES,
+            },
+        }
+    }
+
     // Reads a text and checks its formula for every product.
     pub fn verdict(&self, text: &[u8]) -> Result<Digits, Refused>
         ensures { Answer (family_of self.now) (actions_of self.now) (features_of self.now) text.now (outcome_of result) }
     {
         let mut exprs = [Expr::False; MAX_ENTRIES];
         let mut nodes = [Node::False; MAX_ENTRIES];
-        let count = read(text, &self.actions, &self.features, &mut exprs, &mut nodes)?;
+        let count = read_with(text, self.names(), &mut exprs, &mut nodes)?;
         let mut kind = Mask;
         let mut cells = [kind.none(); CELLS];
         self.checked(&exprs, &nodes[0..count], &mut kind, &mut cells)

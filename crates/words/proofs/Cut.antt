@@ -3,13 +3,15 @@ use Rattle.std.proofs.Common.{◌≡◌, ℕ, suc, ◌+◌, ◌-◌, ◌<◌, �
 use Rattle.std.specs.List.{prefix_len, position, onto_first, AllByRecursion}
 use Rattle.std.proofs.Math.Logic.{∥∥₁_elim}
 use Rattle.std.proofs.Math.Bridge.{le_prop}
+use Rattle.std.specs.Coded.{×_prop, Unit-prop}
+use Rattle.std.proofs.Props.{props}
 use Rattle.std.proofs.lemmas.List.Sums.{prefix_len_is}
 use Rattle.std.proofs.lemmas.List.Quantifiers.{position-Some}
 use Rattle.std.proofs.ByRecursion.{All-weaker}
 use Rattle.std.proofs.lemmas.Bool.{eqb-true, ltb-false}
 use Rattle.std.proofs.lemmas.List.{get_or_push, get_or-append-add}
 use Rattle.std.proofs.lemmas.Bool.Decides.{nat_tests}
-use Rattle.lexer.specs.Tokens.{Name, in_name}
+use Rattle.lexer.specs.Tokens.{Run, Name, in_name}
 use Rattle.words.specs.Words.{inside, listed, Lines, Apart, WordList, InForm}
 use Rattle.words.specs.Cut.{cut, Ends}
 
@@ -140,3 +142,21 @@ pub form_is : {limit : ℕ} {bs : List ℕ} → InForm limit bs → Formed limit
 form_is {limit} {bs} u =
     let e = sym (cut_lines (lines u.1)) in
     record { ends = subst Ends (sym u.1.ended) (listed_ends u.0); short = subst (λ ws. length ws ≤ limit) e u.1.few; names = subst (AllByRecursion Name) e u.1.names; apart = subst Apart e u.1.apart }
+
+-- ---- that a list keeps its form is one fact, not several
+
+run_prop : (w : List ℕ) → IsProp (Run w)
+run_prop w = Prim.hlevel props
+
+name_prop : (w : List ℕ) → IsProp (Name w)
+name_prop w = Prim.hlevel props
+
+names_prop : (ws : List (List ℕ)) → IsProp (AllByRecursion Name ws)
+names_prop [] = Unit-prop
+names_prop (w ∷ ws) = ×_prop (name_prop w) (names_prop ws)
+
+list_prop : (limit : ℕ) (bs : List ℕ) (ws : List (List ℕ)) → IsProp (WordList limit bs ws)
+list_prop limit bs ws = Prim.hlevel props
+
+pub in_form : {limit : ℕ} {bs : List ℕ} → ∥ InForm limit bs ∥₁ → InForm limit bs
+in_form {limit} {bs} t = (cut bs, ∥∥₁_elim t (list_prop limit bs (cut bs)) (λ u. subst (WordList limit bs) (sym (cut_lines (lines u.1))) u.1))

@@ -1,35 +1,51 @@
-use Rattle.std.proofs.Common.{ℕ, ◌≤◌, List, length, refl}
+use Rattle.std.proofs.Common.{◌≡◌, ℕ, ◌≤◌, List, length, Some, None, Option, sym, refl, ap, ◌∙◌, subst}
 use Rattle.std.proofs.lemmas.Result.{err_from_is_err_and}
-use Rattle.words.specs.Words.{InForm}
-use Rattle.reader.specs.Outcome.{Fit, long_text, no_words}
-use Rattle.reader.proofs.Attempts.{source, attempted, untokened}
+use Rattle.lexer.specs.Texts.{toks, listed, TokensOf, NoTokenAt}
+use Rattle.words.specs.Words.{Lines}
+use Rattle.words.proofs.Cut.{lines}
+use Rattle.reader.specs.Outcome.{Fit, long_text, no_words, no_token, Ready, Parsed}
+use Rattle.reader.specs.Vocabularies.{Worded, Knows}
+use Rattle.reader.specs.declared.vocabulary.Vocabulary.{Vocabulary}
+use Rattle.reader.proofs.Attempts.{source, attempted}
 use Rattle.reader.proofs.attempt.Goals as goal
 
-pub returns-then-text-gt-LONGEST_TEXT : goal.returns-then-text-gt-LONGEST_TEXT
-returns-then-text-gt-LONGEST_TEXT c = long_text c.if-text-gt-LONGEST_TEXT.true
-
 pub returns-in_default : goal.returns-in_default
-returns-in_default c = no_words c.if-text-gt-LONGEST_TEXT.false (λ h. c.in_default.ensures h.0)
+returns-in_default c = λ actions features k. long_text c.in_default.ensures
 
-pub returns-in_default-new : goal.returns-in_default-new
-returns-in_default-new c = no_words c.if-text-gt-LONGEST_TEXT.false (λ h. c.in_default-new.ensures h.1)
+-- where there are no names, a list breaks its form
+unworded : (actions features : List ℕ) (names : Option Vocabulary) → ((v : Vocabulary) → names ≡ Some v → ⊥) → Knows actions features names → Worded actions features → ⊥
+unworded actions features (Some v) none k = absurd (none v refl)
+unworded actions features None none k = k
+
+pub returns-in_default-names : goal.returns-in_default-names
+returns-in_default-names c = λ actions features k. no_words c.in-Some.ensures.0 (unworded actions features c.args.names c.in_default-names.not-Some k)
 
 -- a short text, and two lists in form
-fit : (text actions features : List ℕ) → length text ≤ 1024 → (a : InForm 64 actions) (f : InForm 16 features) → Fit text actions features a.0 f.0
-fit text actions features le a f = record { short = le; action_list = a.1; feature_list = f.1 }
+fit : (text actions features : List ℕ) → length text ≤ 1024 → (w : Worded actions features) → Fit text actions features w.0.0 w.1.0
+fit text actions features le w = record { short = le; action_list = w.0.1; feature_list = w.1.1 }
 
-pub returns-in_err-check_tokens : goal.returns-in_err-check_tokens
-returns-in_err-check_tokens c =
+pub returns-in_err-tokens : goal.returns-in_err-tokens
+returns-in_err-tokens c = λ actions features k.
     let p = err_from_is_err_and c.from_residual.result c.from_residual.ensures.1 in
-    let a = c.in-Some.ensures.0 in
-    let f = c.in-Some-new.ensures.0 in
-    rw (p.1, p.2) (untokened c.args.text.now c.args.actions.now c.args.features.now (length c.args.exprs.now) (length c.args.nodes.now) a.0 f.0 (fit _ _ _ c.if-text-gt-LONGEST_TEXT.false a f) c.args.exprs.now c.args.nodes.now _ c.in_err-check_tokens.ensures)
+    let w = (subst (Knows actions features) c.in-Some-names.is k).0 in
+    rw (p.1, p.2) (no_token w.0.0 w.1.0 _ (fit c.args.text.now actions features c.in-Some.ensures.0 w) (subst (λ bs. NoTokenAt bs 0 c.in_err-tokens.field-0.0.0) c.in-Some.ensures.1 c.in_err-tokens.ensures))
 
 pub returns : goal.returns
-returns c =
-    let a = c.in-Some.ensures.0 in
-    let f = c.in-Some-new.ensures.0 in
-    let l = c.in_ok-check_tokens.ensures in
-    let g = fit c.args.text.now c.args.actions.now c.args.features.now c.if-text-gt-LONGEST_TEXT.false a f in
-    attempted c.args.text.now c.args.actions.now c.args.features.now (length c.args.exprs.now) (length c.args.nodes.now) a.0 f.0 g l.0 l.1 c.requires.room c.parse.new.exprs c.parse.new.nodes
-    (c.parse.ensures (source c.args.text.now c.args.actions.now c.args.features.now (length c.args.exprs.now) (length c.args.nodes.now) a.0 f.0 g) l.0 (record { same_text = refl; same_actions = c.in-Some.ensures.1; same_features = c.in-Some-new.ensures.1; tokens = l.1; exprs = c.requires.exprs; nodes = c.requires.nodes }))
+returns c = λ actions features k.
+    let text = c.args.text.now in
+    let v = subst (Knows actions features) c.in-Some-names.is k in
+    let w = v.0 in
+    let g = fit text actions features c.in-Some.ensures.0 w in
+    let n = length c.args.exprs.now in
+    let m = length c.args.nodes.now in
+    let ts = toks c.as_slice.result.now in
+    let lexed : TokensOf text 0 ts = subst (TokensOf text 0) (sym c.as_slice.ensures.tokens) (subst (λ bs. TokensOf bs 0 (listed c.in_ok-tokens.tokens)) c.in-Some.ensures.1 c.in_ok-tokens.ensures) in
+    let x = source text actions features n m w.0.0 w.1.0 g in
+    let ready : Ready x c.in-Some-names.names c.args.exprs.now c.args.nodes.now = record {
+      actions = subst (λ b. Lines b w.0.0) (sym v.1) (lines w.0.1);
+      features = subst (λ b. Lines b w.1.0) (sym v.2) (lines w.1.1);
+      exprs = c.requires.exprs;
+      nodes = c.requires.nodes;
+    } in
+    let end = c.len.ensures ∙ ap length c.in-Some.ensures.1 in
+    attempted text actions features n m w.0.0 w.1.0 g ts lexed c.requires.room c.parse.new.exprs c.parse.new.nodes (subst (λ e. Parsed x e ts c.parse.new.exprs c.parse.new.nodes c.parse.result) end (c.parse.ensures x ready))

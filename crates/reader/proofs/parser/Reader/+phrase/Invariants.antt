@@ -1,28 +1,27 @@
-use Rattle.std.proofs.Common.{◌+◌, ◌-◌, ◌*◌, length}
+use Rattle.std.proofs.Common.{◌+◌, ◌*◌, length}
 use Rattle.grammar.specs.Grammar.{AndPartOf, PhraseOf}
 use Rattle.grammar.specs.Machine.{Any, NotNext}
 use Rattle.lexer.specs.declared.Sign.TheVariants.{And}
-use Rattle.reader.specs.Reading.{Onto}
-use Rattle.reader.proofs.Trees.{Loops}
+use Rattle.reader.specs.Reading.{Onto, Did}
 use Rattle.reader.proofs.parser.Reader.+phrase.Given as goal
 
 abbrev pub decreases-and_part : goal.decreases-and_part
-decreases-and_part l = 3 * (length l.self.now.text.now - l.self.now.at) + 1
+decreases-and_part l = 3 * length l.self.now.tokens.now + 1
 
 abbrev pub decreases-phrase : goal.decreases-phrase
-decreases-phrase l = 3 * (length l.self.now.text.now - l.self.now.at) + 2
+decreases-phrase l = 3 * length l.self.now.tokens.now + 2
 
 abbrev pub decreases-unit : goal.decreases-unit
-decreases-unit l = 3 * (length l.self.now.text.now - l.self.now.at)
+decreases-unit l = 3 * length l.self.now.tokens.now
 
-abbrev pub invariant-and_part-loop-on : goal.invariant-and_part-loop-on
-invariant-and_part-loop-on l = Onto l.initial.self l.self × Loops l.level (AndPartOf l.level) Any l.initial.self l.initial.left l.self l.left
+abbrev pub invariant-and_part-loop-level : goal.invariant-and_part-loop-level
+invariant-and_part-loop-level l = Onto l.fn.self l.self × Did l.level (AndPartOf l.level) Any l.fn.self l.self l.left
 
-abbrev pub decreases-and_part-loop-on : goal.decreases-and_part-loop-on
-decreases-and_part-loop-on l = length l.self.text.now - l.self.at
+abbrev pub decreases-and_part-loop-level : goal.decreases-and_part-loop-level
+decreases-and_part-loop-level l = length l.self.tokens.now
 
-abbrev pub invariant-phrase-loop-on : goal.invariant-phrase-loop-on
-invariant-phrase-loop-on l = Onto l.initial.self l.self × Loops l.level (PhraseOf l.level) (NotNext And) l.initial.self l.initial.left l.self l.left
+abbrev pub invariant-phrase-loop-level : goal.invariant-phrase-loop-level
+invariant-phrase-loop-level l = Onto l.fn.self l.self × Did l.level (PhraseOf l.level) (NotNext And) l.fn.self l.self l.left
 
-abbrev pub decreases-phrase-loop-on : goal.decreases-phrase-loop-on
-decreases-phrase-loop-on l = length l.self.text.now - l.self.at
+abbrev pub decreases-phrase-loop-level : goal.decreases-phrase-loop-level
+decreases-phrase-loop-level l = length l.self.tokens.now

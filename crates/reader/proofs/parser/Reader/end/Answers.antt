@@ -1,10 +1,13 @@
-use Rattle.std.proofs.Common.{ap, ◌∙◌}
-use Rattle.lexer.specs.Cuts.{cut_at}
-use Rattle.reader.proofs.Steps.{next_token, bad_in}
+use Rattle.std.proofs.Common.{◌≡◌, drop, sym, subst, rules, ◌∷◌}
+use Rattle.lexer.specs.Tokens.{tok}
+use Rattle.lexer.specs.Cuts.{sym_of, tok_of}
+use Rattle.lexer.specs.Texts.{toks}
+use Rattle.reader.specs.Reading.{left}
 use Rattle.reader.proofs.parser.Reader.end.Goals as goal
 
-pub returns-in-Ok : goal.returns-in-Ok
-returns-in-Ok c = λ x ts t st. let n = next_token c.args.self.now _ _ _ c.in-Ok.ensures.value x ts t st in (_, n.0, n.1)
-
-pub returns-in-Err-Bad : goal.returns-in-Err-Bad
-returns-in-Err-Bad c = λ x ts t st. let e = rw c.in-Err-Bad.field-0-is at c.in-Err-Bad.ensures.value in absurd (bad_in x.text _ st.tokens (e ∙ ap (λ b. cut_at b c.args.self.now.at) st.text))
+pub returns-in-Some : goal.returns-in-Some
+returns-in-Some c =
+    let t = c.in-Some.token.now in
+    let on = toks (drop 1 c.args.self.now.tokens.now) in
+    let next : left c.args.self.now ≡ tok_of t ∷ on = search rules in
+    (sym_of t, on, subst (λ p. left c.args.self.now ≡ tok (sym_of t) p ∷ on) (sym c.place.ensures) next)

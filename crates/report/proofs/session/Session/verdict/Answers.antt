@@ -21,13 +21,13 @@ not_zero rf.TooManyEntries e = omega arith
 pub returns-in_err-count : goal.returns-in_err-count
 returns-in_err-count c =
     let p = err_from_is_err_and c.from_residual.result c.from_residual.ensures.1 in
-    rw (p.1, p.2.0, p.2.1) (unread (tried_of c.deref.ensures.value c.deref-2.ensures.value refl refl c.in_err-count.ensures) (not_zero _))
+    rw (p.1, p.2.0, p.2.1) (unread (tried_of c.names.ensures.actions c.names.ensures.features refl refl c.in_err-count.ensures) (not_zero _))
 
 pub slice_bounds-checked-end-2 : goal.slice_bounds-checked-end-2
 slice_bounds-checked-end-2 c =
-    let few : c.in_ok-count.count ≤ 64 = few_read refl (tried_of c.deref.ensures.value c.deref-2.ensures.value refl refl c.in_ok-count.ensures) in search rules
+    let few : c.in_ok-count.count ≤ 64 = few_read refl (tried_of c.names.ensures.actions c.names.ensures.features refl refl c.in_ok-count.ensures) in search rules
 
 pub returns : goal.returns
 returns c =
     answer_read (family_of c.args.self.now) c.args.text.now (actions_of c.args.self.now) (features_of c.args.self.now) refl
-    (tried_of c.deref.ensures.value c.deref-2.ensures.value refl refl c.in_ok-count.ensures) _ (search rules) (outcome_of c.checked.result) c.checked.ensures
+    (tried_of c.names.ensures.actions c.names.ensures.features refl refl c.in_ok-count.ensures) _ (search rules) (outcome_of c.checked.result) c.checked.ensures

@@ -1,0 +1,35 @@
+use Rattle.std.proofs.Common.{◌≡◌, ℕ, List, [], ◌∷◌, ◌++◌, length, Some, None, Ok, Option, IfSome, sym, ap, ◌∙◌, subst, append_assoc, append-nil, refl, arith}
+use Rattle.std.proofs.lemmas.Result.{err_from_is_err_and}
+use Rattle.lexer.specs.Cuts.{tok_of, seen, end, Lawful, Onward}
+use Rattle.lexer.specs.Texts.{TokensOf, no_more, one_more, NoTokenAt, here, later, listed}
+use Rattle.lexer.specs.declared.Found.{Found}
+use Rattle.lexer.proofs.tokens.Text.tokens.Goals as goal
+
+pub returns-in_err-found : goal.returns-in_err-found
+returns-in_err-found c =
+    let p = err_from_is_err_and c.from_residual.result c.from_residual.ensures.1 in
+    let l = c.in_err-found.ensures.longest in
+    rw (p.1, p.2) (c.loop-found.invariant.2 _ (here _ _ l.0 l.1 l.2 l.3))
+
+pub loop-found-preserved : goal.loop-found-preserved
+loop-found-preserved c =
+    let bs = c.args.self.bytes.now in
+    let t = c.in-Some.found.token in
+    let l = subst (λ o. Lawful bs c.loop-found.at (seen (Ok o))) c.in-Some.is c.in_ok-found.ensures.longest in
+    let on = subst (λ o. IfSome o (Onward c.loop-found.at (length bs))) c.in-Some.is c.in_ok-found.ensures.onward in (
+      omega (arith, c.push.ensures.count, c.loop-found.invariant.0, on.0),
+      on.1,
+      λ p h. c.loop-found.invariant.2 p (later _ _ _ _ l.0 l.1 (subst (λ k. NoTokenAt bs k p) l.2 h)),
+      λ ts h. subst (λ x. TokensOf bs 0 x) (sym (ap (λ x. x ++ ts) c.push.ensures.tokens ∙ append_assoc (listed c.loop-found.tokens) (tok_of t ∷ []) ts)) (c.loop-found.invariant.3 _ (one_more _ _ _ l.0 l.1 (subst (λ k. TokensOf bs k ts) l.2 h))),
+    )
+
+-- no token comes next
+ended : (bs : List ℕ) (i : ℕ) (next : Option Found) → ((f : Found) → next ≡ Some f → ⊥) → Lawful bs i (seen (Ok next)) → Lawful bs i end
+ended bs i (Some f) none l = absurd (none f refl)
+ended bs i None none l = l
+
+pub returns : goal.returns
+returns c =
+    let bs = c.args.self.bytes.now in
+    let sp = ended bs c.loop-found.at c.in_ok-found.field-0 c.in_default.not-Some c.in_ok-found.ensures.longest c.loop-found.invariant.1 in
+    subst (λ x. TokensOf bs 0 x) (append-nil (listed c.loop-found.tokens)) (c.loop-found.invariant.3 [] (no_more _ sp))
