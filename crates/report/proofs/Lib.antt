@@ -1,5 +1,8 @@
 mod Begins
 mod Checks
+mod Conversations
+mod Events
 mod Kept
-mod Runs
+mod Listings
+mod Pieces
 mod Texts

@@ -1,5 +1,9 @@
 pub mod Answers
 pub mod Lines
+pub mod Listings
 pub mod Verdicts
 pub mod Sessions
 pub mod Transcripts
+pub mod Events
+pub mod Conversations
+pub mod Pieces

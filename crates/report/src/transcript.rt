@@ -1,7 +1,6 @@
 // A session that takes its input byte by byte and answers each line as it ends.
-ghost use Rattle.std.specs.Prelude.{◌≡◌, ◌≤◌, [], ◌∷◌, ◌++◌, map, IfOk, None as none, Ok as ok, vec_len, vec_capacity, string_bytes, ◌≢◌};
-ghost use Rattle.report.specs.Sessions.{family_of, actions_of, features_of};
-ghost use Rattle.report.specs.Transcripts.{kept, next, Told, Tells, Transcribed};
+ghost use Rattle.std.specs.Prelude.{◌≡◌, ◌≤◌, [], ◌∷◌, ◌++◌, IfOk, None as none, Ok as ok, vec_len, vec_capacity, string_bytes, ◌≢◌};
+ghost use Rattle.report.specs.Transcripts.{kept, next, Told, Tells};
 
 use crate::session::Session;
 use crate::verdict::line;
@@ -24,7 +23,7 @@ pub struct Transcript {
 
 impl Transcript {
     // Before the first byte of the input.
-    pub fn new(heap: Global, session: Session) -> Result<Transcript, AllocError>
+    pub(crate) fn new(heap: Global, session: Session) -> Result<Transcript, AllocError>
         ensures { IfOk result (λ t. (t.session ≡ session) × (t.line.items ≡ []) × (t.number ≡ 1)) }
     {
         let line = Vec::with_capacity(heap, KEPT)?;
@@ -50,7 +49,7 @@ impl Transcript {
     }
 
     // Takes the next byte of the input, and gives the answer if a line ends with it.
-    pub fn feed(&mut self, heap: Global, byte: u8) -> Result<Option<String>, AllocError>
+    pub(crate) fn feed(&mut self, heap: Global, byte: u8) -> Result<Option<String>, AllocError>
         ensures session { self.new.session ≡ self.old.session }
         ensures within { (byte ≢ 10) → (result ≡ ok none) × (self.new.line.items ≡ kept (self.old.line.items ++ byte ∷ [])) × (self.new.number ≡ self.old.number) }
         ensures ended { byte ≡ 10 → (self.new.line.items ≡ []) × (self.new.number ≡ next self.old.number) }
@@ -66,7 +65,7 @@ impl Transcript {
     }
 
     // At the end of the input: the answer to a last line that lacks its end, unless it is empty.
-    pub fn finish(&mut self, heap: Global) -> Result<Option<String>, AllocError>
+    pub(crate) fn finish(&mut self, heap: Global) -> Result<Option<String>, AllocError>
         ensures session { self.new.session ≡ self.old.session }
         ensures line { self.new.line.items ≡ [] }
         ensures empty { self.old.line.items ≡ [] → (result ≡ ok none) × (self.new.number ≡ self.old.number) }
@@ -78,21 +77,4 @@ impl Transcript {
         }
         Ok(Some(self.answer(heap)?))
     }
-}
-
-// The lines that are written for a whole input.
-pub fn transcribe(heap: Global, session: Session, input: &[u8]) -> Result<Vec<String>, AllocError>
-    ensures { IfOk result (λ v. Transcribed (family_of session) (actions_of session) (features_of session) 1 input.now (map string_bytes v.items)) }
-{
-    let mut transcript = Transcript::new(heap, session)?;
-    let mut lines = Vec::new(heap);
-    for byte in input {
-        if let Some(line) = transcript.feed(heap, *byte)? {
-            lines.push(line)?;
-        }
-    }
-    if let Some(line) = transcript.finish(heap)? {
-        lines.push(line)?;
-    }
-    Ok(lines)
 }
