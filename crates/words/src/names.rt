@@ -1,5 +1,5 @@
 // The names of a word list that keeps its form.
-ghost use Rattle.std.specs.Prelude.{◌≡◌, ◌≤◌, ◌↔◌, T, ℕ, List, length, MatchOption};
+ghost use Rattle.std.specs.Prelude.{◌≡◌, ◌≤◌, ◌↔◌, T, ℕ, List, length, slice_get, option_map, MatchOption};
 ghost use Rattle.std.specs.List.{AllByRecursion};
 ghost use Rattle.lexer.specs.Tokens.{Name};
 ghost use Rattle.words.specs.Words.{Lines as IsCutInto, Apart, InForm, number};
@@ -34,6 +34,13 @@ impl<'a> Names<'a> {
     {
         // Nothing is lost, as a list has at most 255 names; `try_from` would answer for a case that cannot come.
         find(self.list, name).map(|k| k as u8)
+    }
+
+    /// The name of a number.
+    pub fn name(self, number: u8) -> Option<&'a [u8]>
+        ensures { option_map (λ name. name.now) result ≡ slice_get (cut self.entry.list.now) number }
+    {
+        Lines::of(self.list).nth(usize::from(number))
     }
 }
 
