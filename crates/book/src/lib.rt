@@ -7,5 +7,5 @@ mod check;
 mod contents;
 mod loads;
 pub mod own;
-mod records;
+pub mod records;
 pub mod refusals;

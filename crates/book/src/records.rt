@@ -4,17 +4,18 @@ ghost use Rattle.book.specs.Records.{record_in};
 
 use families::Transition;
 
-pub(crate) const RECORD_BYTES: usize = 8;
+/// How many bytes a record has.
+pub const RECORD_BYTES: usize = 8;
 
-// What a record asks for.
+/// What a record asks for: a product by its configuration, or a transition.
 #[derive(Clone, Copy)]
-pub(crate) enum Record {
+pub enum Record {
     AddProduct(u16),
     AddTransition(Transition),
 }
 
-// Numbers of two bytes have the low byte first.
-pub(crate) fn read(bytes: [u8; RECORD_BYTES]) -> Option<Record>
+/// What eight bytes ask for, or none if they are no record. Numbers of two bytes have the low byte first.
+pub fn read(bytes: [u8; RECORD_BYTES]) -> Option<Record>
     ensures { result ≡ record_in bytes }
 {
     match bytes {
