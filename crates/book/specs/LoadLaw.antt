@@ -1,6 +1,6 @@
 -- What a load does, without going through it: all records come in, at the ends of the lists, or none does.
 use Rattle.std.specs.Prelude.{◌≡◌, ℕ, zero, suc, ◌/◌, ◌%◌, ◌<◌, ◌≤◌, ◌⊎◌, List, [], ◌∷◌, ◌++◌, length, take}
-use Rattle.std.specs.Prelude.{Option, Some, None, Err, IsOk}
+use Rattle.std.specs.Prelude.{Option, Some, Err, IsOk}
 use Rattle.families.specs.declared.Transition.{Transition}
 use Rattle.families.specs.Families.{Family}
 use Rattle.book.specs.declared.records.Record.{Record}
@@ -13,14 +13,12 @@ use Rattle.book.specs.Loads.{record_result}
 
 -- The product, and the transition, that a record brings.
 abbrev pub product_of : Option Record → List ℕ
-product_of None = []
 product_of (Some (AddProduct c)) = c ∷ []
-product_of (Some (AddTransition t)) = []
+product_of _ = []
 
 abbrev pub transition_of : Option Record → List Transition
-transition_of None = []
-transition_of (Some (AddProduct c)) = []
 transition_of (Some (AddTransition t)) = t ∷ []
+transition_of _ = []
 
 -- Those of the first n records, in order.
 abbrev pub products_of : List ℕ → ℕ → List ℕ

@@ -5,6 +5,7 @@ use Rattle.families.specs.declared.Transition.{Transition}
 use Rattle.book.specs.declared.records.Record.{Record}
 use Rattle.book.specs.declared.records.Record.TheVariants.{AddProduct, AddTransition}
 
+-- A record that asks for this transition.
 abbrev pub transition_record : ℕ → ℕ → ℕ → ℕ → ℕ → Option Record
 transition_record source action target required excluded =
     let t : Transition =
@@ -19,6 +20,7 @@ record_of kind a b c d e f g =
     else (if kind == 84 then transition_record a b c (d + 256 * e) (f + 256 * g)
     else (if kind == 77 && no_condition then transition_record a b c 0 0 else None))
 
+-- What a list of eight bytes asks for.
 abbrev pub record_in : List ℕ → Option Record
 record_in bytes =
     record_of (slice_index bytes 0) (slice_index bytes 1) (slice_index bytes 2) (slice_index bytes 3)
