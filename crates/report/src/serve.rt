@@ -116,7 +116,7 @@ fn answer_end<C: Console>(
 {
     match transcript.finish(alloc)? {
         None => Ok(()),
-        Some(line) => answer_line(console, line),
+        Some(last) => answer_line(console, last),
     }
 }
 

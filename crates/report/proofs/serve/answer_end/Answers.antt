@@ -27,6 +27,6 @@ returns-in-Some g c =
     elim (empty_or (vec_items t.line)) [
       | inl e ↦ absurd (let z : ◌≡◌ {A = ℕ} 0 1 = (let a = (f.empty e).0 in let b = c.in-Some.is in cc) in omega arith)
       | inr n ↦ through_weaker (g.C.Console.known c.args.console.now) (g.C.Console.known c.answer_line.new.console)
-          (λ es says. finishes_line (Unit {0}) t (string_bytes c.in-Some.line) (told _ c.in_ok-finish.field-0 c.in-Some.line c.in-Some.is (f.answer n)) n c.answer_line.result es says)
+          (λ es says. finishes_line (Unit {0}) t (string_bytes c.in-Some.last) (told _ c.in_ok-finish.field-0 c.in-Some.last c.in-Some.is (f.answer n)) n c.answer_line.result es says)
           c.answer_line.ensures
     ]
