@@ -135,7 +135,7 @@ mod tests {
         Ok(())
     }
 
-    // `tools/want_of_memory` runs this with each allocation failing in turn: a call answers the error or what it answers
+    // `tools/allocation_failures` runs this with each allocation failing in turn: a call answers the error or what it answers
     // with memory enough, and the calls after it go on as if it had not been made.
     #[test]
     fn want_of_memory(rt: HostRuntime) -> Result<(), Fail> {
