@@ -10,26 +10,31 @@ use std::fs::File;
 use std::io;
 use std::io::{ErrorKind, Read};
 
-/// How many bytes of a file are read at most: more than any file that a program accepts has, so that a longer one is refused all the same.
+/// How many bytes of a file are read at most: more than any file that a program accepts has, so that a longer
+/// one is refused all the same.
 pub const MOST_BYTES: u64 = 65_536;
 
 // The first bytes that a reader gives, `most` of them or all.
 fn read_front<R: Read>(alloc: Global, reader: &mut R, most: u64) -> io::Result<Vec<u8>>
-    ensures { IfOk result (λ bytes. IfSome (R.remaining reader.old) (λ all. bytes.items ≡ take most all)) }
+    ensures { IfOk result (λ bytes.
+        IfSome (R.remaining reader.old) (λ all. bytes.items ≡ take most all)) }
 {
     let mut bytes = Vec::new(alloc);
     reader.take(most).read_to_end(&mut bytes)?;
     Ok(bytes)
 }
 
-/// The first bytes of what was opened, `most` of them or all; a missing file counts as empty, and any other failure to open stays as it is.
+/// The first bytes of what was opened, `most` of them or all; a missing file counts as empty, and any other
+/// failure to open stays as it is.
 pub fn front_or_none<R: Read + Drop>(
     alloc: Global,
     opened: io::Result<R>,
     most: u64,
 ) -> io::Result<Vec<u8>>
-    ensures found { IfOk opened (λ r. IfOk result (λ bytes. IfSome (R.remaining r) (λ all. bytes.items ≡ take most all))) }
-    ensures missing { IfErr opened (λ e. error_kind e ≡ NotFound → IsOkAnd result (λ bytes. bytes.items ≡ [])) }
+    ensures found { IfOk opened (λ r. IfOk result (λ bytes.
+        IfSome (R.remaining r) (λ all. bytes.items ≡ take most all))) }
+    ensures missing { IfErr opened (λ e.
+        error_kind e ≡ NotFound → IsOkAnd result (λ bytes. bytes.items ≡ [])) }
     ensures failed { IfErr opened (λ e. error_kind e ≢ NotFound → result ≡ Err e) }
 {
     match opened {

@@ -2,7 +2,8 @@
 use Rattle.std.specs.Prelude.{◌≡◌, ℕ, ◌-◌, ◌^◌, ◌≤◌, List, [], ◌∷◌, ◌++◌, length, Result, Ok, Err, ⊤}
 use Rattle.std_io.specs.declared.io.error.Error.{Error}
 use Rattle.families.specs.Families.{Family}
-use Rattle.report.specs.Events.{Event, read, read_failed, bytes_read, bytes_written, IsWrite, OnlyWrites, Unwritten}
+use Rattle.report.specs.Events.{Event, read, read_failed, bytes_read, bytes_written, IsWrite, OnlyWrites}
+use Rattle.report.specs.Events.{Unwritten}
 use Rattle.report.specs.Lines.{Line}
 use Rattle.report.specs.Sessions.{family_of, actions_of, features_of}
 use Rattle.report.specs.Transcripts.{next, Unbroken, Transcribed}
@@ -10,8 +11,10 @@ use Rattle.report.specs.declared.session.Session.{Session}
 use Rattle.report.specs.declared.serve.Stopped.{Stopped}
 use Rattle.report.specs.declared.serve.Stopped.TheVariants.{Input, Output, Memory, Spent}
 
--- From line n on this text was read, and these answers are to the lines that have ended in it; line m has begun, with what is left of the text.
-pub data Answered (F : Family) (actions features : List ℕ) : ℕ → List ℕ → List (List ℕ) → ℕ → List ℕ → Type 0 where
+-- From line n on this text was read, and these answers are to the lines that have ended in it; line m has
+-- begun, with what is left of the text.
+pub data Answered (F : Family) (actions features : List ℕ) : ℕ → List ℕ → List (List ℕ) → ℕ → List ℕ
+    → Type 0 where
   begun : {n : ℕ} {text : List ℕ} → Unbroken text → Answered F actions features n text [] n text
   answered : {n m : ℕ} {text bytes rest left : List ℕ} {more : List (List ℕ)} → Unbroken text
       → Line F actions features n text bytes → Answered F actions features (next n) rest more m left
@@ -57,10 +60,12 @@ pub record Exhausted (s : Session) (es : List Event) : Type 0 where
   pub answers : UpToDate s es
   pub many : 2 ^ 64 - 1 ≤ length (bytes_read es)
 
--- What was written of the answer to line n, which is this text, and of its end: a front, or nothing where there is no memory for it.
+-- What was written of the answer to line n, which is this text, and of its end: a front, or nothing where
+-- there is no memory for it.
 pub data Part (s : Session) (n : ℕ) (text : List ℕ) : Stopped → List ℕ → Type 0 where
   nothing_of_it : {e : _} → Part s n text (Memory e) []
-  front_of_it : {e : Error} {part : List ℕ} (answer rest : List ℕ) → Line (family_of s) (actions_of s) (features_of s) n text answer
+  front_of_it : {e : Error} {part : List ℕ} (answer rest : List ℕ)
+      → Line (family_of s) (actions_of s) (features_of s) n text answer
       → answer ++ 10 ∷ [] ≡ part ++ rest → Part s n text (Output e) part
 
 -- That an answer was not written whole is told by the last write. Want of memory is no event.
@@ -93,6 +98,7 @@ Ends s (Err (Memory e)) es = BrokenOff s (Memory e) es
 Ends s (Err Spent) es = Exhausted s es
 
 -- These events are a conversation with a session, and this is its result.
-pub record Conversation {T : Type 0} (s : Session) (result : Result T Stopped) (es : List Event) : Type 0 where
+pub record Conversation {T : Type 0} (s : Session) (result : Result T Stopped)
+    (es : List Event) : Type 0 where
   pub prompt : Prompt s es
   pub ends : Ends s result es

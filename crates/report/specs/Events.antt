@@ -44,7 +44,8 @@ IsWrite (write_failed e) = ⊤
 abbrev pub OnlyWrites : List Event → Type 0
 OnlyWrites es = AllByRecursion IsWrite es
 
--- What is known of a console: the bytes that it will still give, those that it holds, and all that has happened on it, in order.
+-- What is known of a console: the bytes that it will still give, those that it holds, and all that has
+-- happened on it, in order.
 pub record Known : Type 0 where
   pub unread : Option (List ℕ)
   pub written : Option (List ℕ)
@@ -89,4 +90,5 @@ pub data Unwritten (e : Error) : List Event → Type 0 where
 -- Bytes were written whole, or a front of them up to a failure.
 abbrev pub Puts : {T : Type 0} → List ℕ → Result T Error → List Event → Type 0
 Puts bytes (Ok x) es = OnlyWrites es × (bytes_written es ≡ bytes)
-Puts bytes (Err e) es = OnlyWrites es × ((rest : List ℕ) × (bytes ≡ bytes_written es ++ rest)) × Unwritten e es
+Puts bytes (Err e) es = OnlyWrites es × ((rest : List ℕ) × (bytes ≡ bytes_written es ++ rest))
+    × Unwritten e es

@@ -13,7 +13,8 @@ use Rattle.report.specs.declared.serve.Stopped.TheVariants.{Input, Output, Memor
 abbrev pub Says : {T : Type 0} → List ℕ → Result T Stopped → List Event → Type 0
 Says line (Ok x) es = OnlyWrites es × (bytes_written es ≡ line ++ 10 ∷ [])
 Says line (Err (Input e)) es = ⊥
-Says line (Err (Output e)) es = OnlyWrites es × ((rest : List ℕ) × (line ++ 10 ∷ [] ≡ bytes_written es ++ rest)) × Unwritten e es
+Says line (Err (Output e)) es = OnlyWrites es
+    × ((rest : List ℕ) × (line ++ 10 ∷ [] ≡ bytes_written es ++ rest)) × Unwritten e es
 Says line (Err (Memory e)) es = es ≡ []
 Says line (Err Spent) es = ⊥
 
@@ -22,20 +23,24 @@ pub record Within (t : Transcript) (text : List ℕ) : Type 0 where
   pub keeps : vec_items t.line ≡ kept text
   pub unbroken : Unbroken text
 
--- A transcript that is within a line with this text took these bytes, and this was written: the answers to the lines that end in them.
+-- A transcript that is within a line with this text took these bytes, and this was written: the answers to
+-- the lines that end in them.
 pub record Takes (s : Session) (t u : Transcript) (text bytes written : List ℕ) : Type 0 where
   pub left : List ℕ
   pub lines : List (List ℕ)
   pub within : Within u left
-  pub answers : Answered (family_of s) (actions_of s) (features_of s) t.number (text ++ bytes) lines u.number left
+  pub answers : Answered (family_of s) (actions_of s) (features_of s) t.number
+      (text ++ bytes) lines u.number left
   pub wrote : written ≡ ended lines
 
 -- Whatever line the transcript is within.
 abbrev pub TakesAll : Transcript → Transcript → List ℕ → List ℕ → Type 0
 TakesAll t u bytes written = (text : List ℕ) → Within t text → Takes t.session t u text bytes written
 
--- It stopped within these bytes: after some of them, and with a part of the answer to the line that has begun there.
-pub record Breaks (s : Session) (t : Transcript) (text bytes : List ℕ) (why : Stopped) (written : List ℕ) : Type 0 where
+-- It stopped within these bytes: after some of them, and with a part of the answer to the line that has
+-- begun there.
+pub record Breaks (s : Session) (t : Transcript) (text bytes : List ℕ) (why : Stopped)
+    (written : List ℕ) : Type 0 where
   pub done : List ℕ
   pub rest : List ℕ
   pub number : ℕ
@@ -43,7 +48,8 @@ pub record Breaks (s : Session) (t : Transcript) (text bytes : List ℕ) (why : 
   pub lines : List (List ℕ)
   pub part : List ℕ
   pub split : bytes ≡ done ++ rest
-  pub answers : Answered (family_of s) (actions_of s) (features_of s) t.number (text ++ done) lines number left
+  pub answers : Answered (family_of s) (actions_of s) (features_of s) t.number
+      (text ++ done) lines number left
   pub begins : Part s number left why part
   pub wrote : written ≡ ended lines ++ part
 

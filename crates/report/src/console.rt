@@ -1,4 +1,5 @@
-//! A console: one value that bytes are read from and written to, so that a contract can say in which order.
+//! A console: one value that bytes are read from and written to, so that a contract can say in which
+//! order.
 ghost use Rattle.std.specs.Prelude.{◌≡◌, ◌<◌, length, None as none, OnOk, IfOk};
 ghost use Rattle.std.specs.Io.{ReadsAtMost, WritesAtMost};
 ghost use Rattle.std.specs.Io.KnownBytes.{IsAtEnd};
@@ -33,7 +34,8 @@ pub struct Streams<R, W> {
 }
 
 impl<R: Read, W: Write> Console for Streams<R, W> {
-    ghost known = { λ s. record { unread = R.remaining s.reader; written = W.contents s.writer; events = none } };
+    ghost known = { λ s.
+        record { unread = R.remaining s.reader; written = W.contents s.writer; events = none } };
 
     fn read(&mut self, buffer: &mut [u8]) -> io::Result<usize> {
         self.reader.read(buffer)

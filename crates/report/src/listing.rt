@@ -32,7 +32,8 @@ fn list_product(
     number: usize,
     configuration: u16,
 ) -> Result<String, AllocError>
-    ensures { IfOk result (λ text. Lists (closed_contents book.now) number configuration (string_bytes text)) }
+    ensures { IfOk result (λ text.
+        Lists (closed_contents book.now) number configuration (string_bytes text)) }
 {
     let mut text = product(alloc, number, configuration)?;
     for own in &book.own_transitions(alloc, number)? {
@@ -43,7 +44,8 @@ fn list_product(
 
 // The lines of every product of a book.
 fn list_products(alloc: Global, book: &ClosedBook) -> Result<String, AllocError>
-    ensures { IfOk result (λ text. Listing (closed_contents book.now) (count (closed_contents book.now)) (string_bytes text)) }
+    ensures { IfOk result (λ text.
+        Listing (closed_contents book.now) (count (closed_contents book.now)) (string_bytes text)) }
 {
     let mut text = String::new(alloc);
     for (number, configuration) in book.products().iter().enumerate() {
@@ -59,8 +61,8 @@ fn refused(alloc: Global, unopened: Unopened) -> Result<String, AllocError>
     format!(in alloc; "{unopened}\n")
 }
 
-/// What own_steps writes for the bytes of a family file: a line for each product and for each of its own transitions, or the refusal of the
-/// load. An error is want of memory.
+/// What own_steps writes for the bytes of a family file: a line for each product and for each of its own
+/// transitions, or the refusal of the load. An error is want of memory.
 pub fn own_steps(alloc: Global, family: &[u8]) -> Result<String, AllocError>
     ensures { IfOk result (λ text. Listed family.now (string_bytes text)) }
 {

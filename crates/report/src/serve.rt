@@ -16,8 +16,8 @@ use std::{fmt, io};
 // How many bytes are read at once.
 const BUFFER: usize = 4096;
 
-/// Why not all of the input was answered: a read failed, a write failed, memory is lacking for an answer, or no end came in as many reads as
-/// can be counted.
+/// Why not all of the input was answered: a read failed, a write failed, memory is lacking for an answer, or
+/// no end came in as many reads as can be counted.
 #[derive(Debug, Drop)]
 pub enum Stopped {
     Input(io::Error),
@@ -82,7 +82,8 @@ fn answer_byte<C: Console>(
     byte: u8,
 ) -> Result<(), Stopped>
     ensures session { transcript.new.session ≡ transcript.old.session }
-    ensures answer { Through (C.known console.old) (C.known console.new) (Feeds transcript.old transcript.new (byte ∷ []) result) }
+    ensures answer { Through (C.known console.old) (C.known console.new)
+        (Feeds transcript.old transcript.new (byte ∷ []) result) }
 {
     match transcript.feed(alloc, byte)? {
         None => Ok(()),
@@ -98,7 +99,8 @@ fn answer_piece<C: Console>(
     piece: &[u8],
 ) -> Result<(), Stopped>
     ensures session { transcript.new.session ≡ transcript.old.session }
-    ensures answer { Through (C.known console.old) (C.known console.new) (Feeds transcript.old transcript.new piece.now result) }
+    ensures answer { Through (C.known console.old) (C.known console.new)
+        (Feeds transcript.old transcript.new piece.now result) }
 {
     for byte in piece {
         answer_byte(alloc, transcript, console, *byte)?;
@@ -120,7 +122,8 @@ fn answer_end<C: Console>(
     }
 }
 
-/// Answers the lines of a console's input to its end. At each moment every line that has ended is answered before more is read.
+/// Answers the lines of a console's input to its end. At each moment every line that has ended is answered
+/// before more is read.
 pub fn serve<C: Console>(alloc: Global, session: Session, console: &mut C) -> Result<(), Stopped>
     ensures { Through (C.known console.old) (C.known console.new)
         (λ es. Conversation session result es × OnOk result (ReadsAll (C.known console.old).unread es)) }

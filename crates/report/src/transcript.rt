@@ -1,5 +1,6 @@
 // A session that takes its input byte by byte and answers each line as it ends.
-ghost use Rattle.std.specs.Prelude.{◌≡◌, ◌≤◌, [], ◌∷◌, ◌++◌, IfOk, None as none, Ok as ok, vec_len, vec_capacity, string_bytes, ◌≢◌};
+ghost use Rattle.std.specs.Prelude.{◌≡◌, ◌≢◌, ◌≤◌, [], ◌∷◌, ◌++◌, IfOk, None as none, Ok as ok};
+ghost use Rattle.std.specs.Prelude.{vec_len, vec_capacity, string_bytes};
 ghost use Rattle.report.specs.Transcripts.{kept, next, Told, Tells};
 
 use crate::session::Session;
@@ -10,8 +11,8 @@ use std::alloc::{AllocError, Global};
 // One byte more than a text may have, so that what is kept of a longer line is refused too.
 const KEPT: usize = LONGEST_TEXT + 1;
 
-// The line that is being read, as far as it is kept, and its number. Room for it is reserved, so no memory is
-// wanted while it grows. What a call leaves as it was, as the session, each call says.
+// The line that is being read, as far as it is kept, and its number. Room for it is reserved, so no memory
+// is wanted while it grows. What a call leaves as it was, as the session, each call says.
 #[derive(Drop)]
 pub struct Transcript {
     session: Session,
@@ -23,10 +24,10 @@ pub struct Transcript {
 
 impl Transcript {
     // Before the first byte of the input.
-    pub(crate) fn new(heap: Global, session: Session) -> Result<Transcript, AllocError>
+    pub(crate) fn new(alloc: Global, session: Session) -> Result<Transcript, AllocError>
         ensures { IfOk result (λ t. (t.session ≡ session) × (t.line.items ≡ []) × (t.number ≡ 1)) }
     {
-        let line = Vec::with_capacity(heap, KEPT)?;
+        let line = Vec::with_capacity(alloc, KEPT)?;
         Ok(Transcript {
             session,
             line,
@@ -35,28 +36,32 @@ impl Transcript {
     }
 
     // The answer to the line that has ended.
-    fn answer(&mut self, heap: Global) -> Result<String, AllocError>
+    fn answer(&mut self, alloc: Global) -> Result<String, AllocError>
         ensures session { self.new.session ≡ self.old.session }
         ensures line { self.new.line.items ≡ [] }
         ensures number { self.new.number ≡ next self.old.number }
-        ensures answer { IfOk result (λ s. Tells self.old.session self.old.number self.old.line.items (string_bytes s)) }
+        ensures answer { IfOk result (λ s.
+            Tells self.old.session self.old.number self.old.line.items (string_bytes s)) }
     {
         let number = self.number;
         let verdict = self.session.verdict(&self.line);
         self.line.clear();
         self.number = number.saturating_add(1);
-        line(heap, number, &verdict)
+        line(alloc, number, &verdict)
     }
 
     // Takes the next byte of the input, and gives the answer if a line ends with it.
-    pub(crate) fn feed(&mut self, heap: Global, byte: u8) -> Result<Option<String>, AllocError>
+    pub(crate) fn feed(&mut self, alloc: Global, byte: u8) -> Result<Option<String>, AllocError>
         ensures session { self.new.session ≡ self.old.session }
-        ensures within { (byte ≢ 10) → (result ≡ ok none) × (self.new.line.items ≡ kept (self.old.line.items ++ byte ∷ [])) × (self.new.number ≡ self.old.number) }
+        ensures within { (byte ≢ 10) → (result ≡ ok none)
+            × (self.new.line.items ≡ kept (self.old.line.items ++ byte ∷ []))
+            × (self.new.number ≡ self.old.number) }
         ensures ended { byte ≡ 10 → (self.new.line.items ≡ []) × (self.new.number ≡ next self.old.number) }
-        ensures answer { byte ≡ 10 → IfOk result (λ o. Told o (λ s. Tells self.old.session self.old.number self.old.line.items (string_bytes s))) }
+        ensures answer { byte ≡ 10 → IfOk result (λ o. Told o (λ s.
+            Tells self.old.session self.old.number self.old.line.items (string_bytes s))) }
     {
         if byte == b'\n' {
-            return Ok(Some(self.answer(heap)?));
+            return Ok(Some(self.answer(alloc)?));
         }
         if self.line.len() < KEPT {
             self.line.push_reserved(byte);
@@ -65,16 +70,18 @@ impl Transcript {
     }
 
     // At the end of the input: the answer to a last line that lacks its end, unless it is empty.
-    pub(crate) fn finish(&mut self, heap: Global) -> Result<Option<String>, AllocError>
+    pub(crate) fn finish(&mut self, alloc: Global) -> Result<Option<String>, AllocError>
         ensures session { self.new.session ≡ self.old.session }
         ensures line { self.new.line.items ≡ [] }
-        ensures empty { self.old.line.items ≡ [] → (result ≡ ok none) × (self.new.number ≡ self.old.number) }
+        ensures empty { self.old.line.items ≡ [] →
+            (result ≡ ok none) × (self.new.number ≡ self.old.number) }
         ensures ended { (self.old.line.items ≢ []) → self.new.number ≡ next self.old.number }
-        ensures answer { (self.old.line.items ≢ []) → IfOk result (λ o. Told o (λ s. Tells self.old.session self.old.number self.old.line.items (string_bytes s))) }
+        ensures answer { (self.old.line.items ≢ []) → IfOk result (λ o. Told o (λ s.
+            Tells self.old.session self.old.number self.old.line.items (string_bytes s))) }
     {
         if self.line.is_empty() {
             return Ok(None);
         }
-        Ok(Some(self.answer(heap)?))
+        Ok(Some(self.answer(alloc)?))
     }
 }

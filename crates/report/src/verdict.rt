@@ -35,14 +35,14 @@ impl fmt::Display for Refused {
 
 // The line, without its end, for the answer to line `number` of the input.
 pub fn line(
-    heap: Global,
+    alloc: Global,
     number: u64,
     verdict: &Result<Digits, Refused>,
 ) -> Result<String, AllocError>
     ensures { IfOk result (λ s. string_bytes s ≡ written number (outcome_of verdict.now)) }
 {
     match verdict {
-        Ok(digits) => format!(in heap; "{number} {digits}"),
-        Err(refused) => format!(in heap; "{number} {refused}"),
+        Ok(digits) => format!(in alloc; "{number} {digits}"),
+        Err(refused) => format!(in alloc; "{number} {refused}"),
     }
 }

@@ -10,8 +10,9 @@ use std::io;
 use std::io::{ErrorKind, Read, Write};
 
 // Four products and six transitions.
-const FAMILY: &[u8] =
-    b"P\x01\0\0\0\0\0\0P\x02\0\0\0\0\0\0P\x03\0\0\0\0\0\0P\0\0\0\0\0\0\0T\0\0\x01\0\0\0\0T\x01\x01\x02\x01\0\0\0T\x01\x01\x02\x02\0\0\0T\x02\x02\x03\x01\0\0\0T\x02\x03\0\x02\0\0\0T\x03\x03\0\0\0\0\0";
+const FAMILY: &[u8] = b"P\x01\0\0\0\0\0\0P\x02\0\0\0\0\0\0P\x03\0\0\0\0\0\0P\0\0\0\0\0\0\0\
+    T\0\0\x01\0\0\0\0T\x01\x01\x02\x01\0\0\0T\x01\x01\x02\x02\0\0\0\
+    T\x02\x02\x03\x01\0\0\0T\x02\x03\0\x02\0\0\0T\x03\x03\0\0\0\0\0";
 
 const INPUT: &[u8] = b"<fill|hand>true\n\nmu X. !X";
 

@@ -13,4 +13,5 @@ loop-own-preserved c =
     ∙ ap (λ l. l ++ c.deref.result.now) c.loop-own.invariant
     ∙ ap (λ l. (head ++ own_lines (take i owns)) ++ l) (c.deref.ensures ∙ c.in_ok-own_transition.ensures)
     ∙ append_assoc head (own_lines (take i owns)) _
-    ∙ ap (λ l. head ++ l) (sym (own_lines_push (take i owns) _) ∙ ap own_lines (sym (take_more owns i _ c.loop-own-test.true)))
+    ∙ ap (λ l. head ++ l) (sym (own_lines_push (take i owns) _)
+    ∙ ap own_lines (sym (take_more owns i _ c.loop-own-test.true)))

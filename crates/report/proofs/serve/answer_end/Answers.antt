@@ -10,7 +10,8 @@ returns-in_err-finish g c =
     let t = c.args.transcript.now in
     let e = c.in_err-finish.field-0.0 in
     through_none (g.C.Console.known c.args.console.now)
-    (residual c.from_residual.result (Memory e) (λ r. Finishes t r []) c.from_residual.ensures.1 (without_memory t [] e))
+    (residual c.from_residual.result (Memory e) (λ r. Finishes t r []) c.from_residual.ensures.1
+    (without_memory t [] e))
 
 pub returns-in-None : goal.returns-in-None
 returns-in-None g c =
@@ -25,8 +26,12 @@ returns-in-Some g c =
     let t = c.args.transcript.now in
     let f = c.in_ok-finish.ensures in
     elim (empty_or (vec_items t.line)) [
-      | inl e ↦ absurd (let z : ◌≡◌ {A = ℕ} 0 1 = (let a = (f.empty e).0 in let b = c.in-Some.is in cc) in omega arith)
-      | inr n ↦ through_weaker (g.C.Console.known c.args.console.now) (g.C.Console.known c.answer_line.new.console)
-          (λ es says. finishes_line (Unit {0}) t (string_bytes c.in-Some.last) (told _ c.in_ok-finish.field-0 c.in-Some.last c.in-Some.is (f.answer n)) n c.answer_line.result es says)
+      | inl e ↦ absurd (let z : ◌≡◌ {A = ℕ} 0 1 = (let a = (f.empty e).0 in let b = c.in-Some.is in cc) in
+          omega arith)
+      | inr n ↦ through_weaker (g.C.Console.known c.args.console.now)
+          (g.C.Console.known c.answer_line.new.console)
+          (λ es says. finishes_line (Unit {0}) t (string_bytes c.in-Some.last)
+          (told _ c.in_ok-finish.field-0 c.in-Some.last c.in-Some.is (f.answer n)) n
+          c.answer_line.result es says)
           c.answer_line.ensures
     ]

@@ -7,4 +7,5 @@ use Rattle.report.proofs.serve.answer_piece.Given as goal
 abbrev pub invariant-loop-byte : goal.invariant-loop-byte
 invariant-loop-byte g l =
     (l.transcript.session ≡ l.initial.transcript.session)
-    × Through (g.C.Console.known l.initial.console) (g.C.Console.known l.console) (Feeds {T = Unit {0}} l.initial.transcript l.transcript (take l.byte-index l.piece) (Ok (tt {0})))
+    × Through (g.C.Console.known l.initial.console) (g.C.Console.known l.console)
+    (Feeds {T = Unit {0}} l.initial.transcript l.transcript (take l.byte-index l.piece) (Ok (tt {0})))

@@ -7,15 +7,19 @@ pub returns-in-Ok-eq0 : goal.returns-in-Ok-eq0
 returns-in-Ok-eq0 g c =
     let before = g.C.Console.known c.loop-rest.console in
     let after = g.C.Console.known c.write.new.self in
-    put_stuck (g.C.Console.known c.args.console.now) before after c.args.bytes.now c.loop-rest.rest.now (Unit {0}) c.from.result c.from.ensures c.loop-rest.invariant
-    (subst (λ (n : ℕ). Passes before after (wrote (take n c.loop-rest.rest.now) ∷ [])) c.in-Ok-eq0.field-0-test c.in-Ok-eq0.ensures.event)
+    put_stuck (g.C.Console.known c.args.console.now) before after c.args.bytes.now c.loop-rest.rest.now
+    (Unit {0}) c.from.result c.from.ensures c.loop-rest.invariant
+    (subst (λ (n : ℕ). Passes before after (wrote (take n c.loop-rest.rest.now) ∷ []))
+    c.in-Ok-eq0.field-0-test c.in-Ok-eq0.ensures.event)
 
 pub loop-rest-preserved : goal.loop-rest-preserved
 loop-rest-preserved g c =
-    put_more (g.C.Console.known c.args.console.now) (g.C.Console.known c.loop-rest.console) (g.C.Console.known c.write.new.self) c.args.bytes.now c.loop-rest.rest.now
+    put_more (g.C.Console.known c.args.console.now) (g.C.Console.known c.loop-rest.console)
+    (g.C.Console.known c.write.new.self) c.args.bytes.now c.loop-rest.rest.now
     c.in-Ok.count c.loop-rest.invariant c.in-Ok.ensures.event
 
 pub returns-in-Err : goal.returns-in-Err
 returns-in-Err g c =
-    put_failed (g.C.Console.known c.args.console.now) (g.C.Console.known c.loop-rest.console) (g.C.Console.known c.write.new.self) c.args.bytes.now c.loop-rest.rest.now
+    put_failed (g.C.Console.known c.args.console.now) (g.C.Console.known c.loop-rest.console)
+    (g.C.Console.known c.write.new.self) c.args.bytes.now c.loop-rest.rest.now
     (Unit {0}) c.in-Err.e c.loop-rest.invariant c.in-Err.ensures.event

@@ -3,7 +3,8 @@ use Rattle.report.specs.Events.{Through, bytes_read}
 use Rattle.report.proofs.Conversations.{Reached}
 use Rattle.report.proofs.serve.serve.Given as goal
 
--- All lines that have ended in what was read so far are answered, each read gave a byte, and the buffer keeps its length.
+-- All lines that have ended in what was read so far are answered, each read gave a byte, and the buffer
+-- keeps its length.
 abbrev pub invariant-loop : goal.invariant-loop
 invariant-loop g l =
     (length l.buffer ≡ 4096)
