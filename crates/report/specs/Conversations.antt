@@ -55,7 +55,7 @@ pub record Unread (s : Session) (e : Error) (es : List Event) : Type 0 where
   pub failure : es ≡ before ++ (read_failed e ∷ [])
   pub answers : UpToDate s before
 
--- So many reads gave bytes that nobody counts further.
+-- As many bytes were read as reads are counted, and no end came.
 pub record Exhausted (s : Session) (es : List Event) : Type 0 where
   pub answers : UpToDate s es
   pub many : 2 ^ 64 - 1 ≤ length (bytes_read es)

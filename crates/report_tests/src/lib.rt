@@ -1,6 +1,8 @@
 //! Tests of the loop and the listing: in pieces of any length, with failures at every place.
 #![tactic(auto)]
 
+pub mod recorder;
+
 use report::console::Streams;
 use report::listing::own_steps;
 use report::serve::serve;
