@@ -1,4 +1,4 @@
 pub mod Held
-mod LoadLaw
+pub mod LoadLaw
 mod Loaded
 mod ListedOwn

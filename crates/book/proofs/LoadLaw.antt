@@ -101,7 +101,7 @@ module _ (f : Family) (bs : List ℕ) where
   abbrev family_if : Bool → Family
   family_if b = if b then f else result_unwrap_or all f
 
-  load_law : Loaded f bs (load_answer f bs).0 (load_answer f bs).1 (load_after f bs)
+  pub load_law : Loaded f bs (load_answer f bs).0 (load_answer f bs).1 (load_after f bs)
   load_law = go (has_bad_length bs) refl
     where
       ended : (p : Result Family (Refusal × ℕ)) → length bs % 8 ≡ 0 → length bs ≤ 3648

@@ -1,12 +1,11 @@
 -- Products that are alike have equal columns.
-use Rattle.std.proofs.Common.{◌≡◌, ℕ, zero, suc, ◌+◌, ◌*◌, ◌/◌, ◌%◌, ◌<◌, Bool, true, false, ◌↔◌, IsTrue, IsSome}
+use Rattle.std.proofs.Common.{◌≡◌, ℕ, zero, suc, ◌+◌, ◌*◌, ◌/◌, ◌%◌, ◌<◌, Bool, true, false, ◌↔◌, IsSome}
 use Rattle.std.proofs.Common.{List, [], ◌∷◌, length, get_or, Option, Some, None}
 use Rattle.std.proofs.Common.{sym, ap, ◌∙◌, subst, refl, inl, inr, mod-lt, arith}
 use mathlib.Core.Bool.{beq, Bool-set}
 use mathlib.Core.HLevel.{collapsible→set}
 use mathlib.Core.List.{is_set as List-set}
 use Rattle.std.specs.Bool.{Decides}
-use Rattle.std.specs.List.{slice_get}
 use Rattle.std.specs.Option.{option_map, option_and_then}
 use Rattle.std.proofs.Math.Logic.{∥∥₁_elim, ∥∥₁_prop}
 use Rattle.std.proofs.Math.Nat.{div-lt_iff_lt-mul}

@@ -1,6 +1,6 @@
 -- What a call leaves of a book's contents is the ledger after it.
-use Rattle.std.proofs.Common.{◌≡◌, ℕ, ◌/◌, Bool, true, false, List, [], ◌∷◌, length, Result, Ok, Err, is_ok, if◌then◌else◌}
-use Rattle.std.proofs.Common.{refl, sym, ap, ◌∙◌, append-nil}
+use Rattle.std.proofs.Common.{◌≡◌, ℕ, Bool, true, false, List, [], ◌∷◌, length, Result, Ok, Err, is_ok, if◌then◌else◌}
+use Rattle.std.proofs.Common.{refl, sym, ap, ◌∙◌, subst, append-nil}
 use Rattle.std.specs.Prelude.{◌==◌}
 use Rattle.std.proofs.lemmas.Bool.{both_ways, or_left, or_parts}
 use Rattle.families.specs.declared.Transition.{Transition}
@@ -11,15 +11,11 @@ use Rattle.book.specs.declared.refusals.Refusal.TheVariants as refusal
 use Rattle.book.specs.Answers.{number_of, answer_of}
 use Rattle.book.specs.Lists.{is_held, without}
 use Rattle.book.specs.Rules.{same_transition, product_result, product_after, transition_result, transition_after, strike_after}
+use Rattle.book.specs.Loads.{load_answer, load_after}
 use Rattle.book.specs.LoadLaw.{Loaded, ill_sized, first_bad, all_good}
+use Rattle.book.proofs.LoadLaw.{same_family, load_law}
 use Rattle.histories.specs.declared.calls.Call.TheVariants.{AddProduct, AddTransition, Strike}
-use Rattle.histories.specs.Ledger.{is_accepted, ledger_after, ledger_with_records, ledger_without}
-
-same_family : (F G : Family) → F.states ≡ G.states → F.products ≡ G.products → F.transitions ≡ G.transitions → F ≡ G
-same_family F G p q r =
-    ap (λ s. record { states = s; products = F.products; transitions = F.transitions }) p
-    ∙ ap (λ c. record { states = G.states; products = c; transitions = F.transitions }) q
-    ∙ ap (λ t. record { states = G.states; products = G.products; transitions = t }) r
+use Rattle.histories.specs.Ledger.{is_accepted, ledger_after, ledger_with_records, ledger_without, LoadsAreWhole}
 
 -- No refusal has the number of acceptance.
 number_of-nonzero : (r : Refusal) → number_of r == 0 ≡ false
@@ -78,3 +74,10 @@ load_ledger F bs k v G (ill_sized why) = refl
 load_ledger F bs k v G (first_bad r i _ _ _ _ _) =
     ap (λ b. if b then ledger_with_records F bs else F) (sym (number_of-nonzero r))
 load_ledger F bs k v G (all_good _ _ _) = refl
+
+pub loads_are_whole : LoadsAreWhole
+loads_are_whole F bytes =
+    let answer = load_answer F bytes.now in
+    let law = load_law F bytes.now in
+    subst (λ (G : Family). Loaded F bytes.now answer.0 answer.1 G)
+    (load_ledger F bytes.now answer.0 answer.1 (load_after F bytes.now) law) law

@@ -7,7 +7,7 @@ use Rattle.std.specs.Option.{option_map, option_map_or, option_and_then, unwrap_
 use Rattle.std.proofs.lemmas.Bool.{cases_lt, lt-ltb, both_ways}
 use Rattle.std.proofs.lemmas.List.{length-map, length-take-le}
 use Rattle.std.proofs.lemmas.Option.{slice_get-map, slice_get_past}
-use Rattle.families.specs.Families.{Family, count, config}
+use Rattle.families.specs.Families.{Family, count}
 use Rattle.formulas.specs.Tables.{last}
 use Rattle.formulas.specs.Sound.{Sound}
 use Rattle.formulas.specs.declared.Expr.{Expr}

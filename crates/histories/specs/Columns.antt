@@ -1,5 +1,5 @@
 -- The column law: products that are alike get equal columns.
-use Rattle.std.specs.Prelude.{◌≡◌, ℕ, ◌<◌, Bool, ◌↔◌, IsTrue, IsSome, List, length}
+use Rattle.std.specs.Prelude.{◌≡◌, ◌<◌, Bool, ◌↔◌, IsTrue, IsSome, List, length}
 use Rattle.std.specs.Prelude.{Option, None, Some, slice_get, option_and_then}
 use Rattle.std.specs.Borrow.{Bor}
 use Rattle.families.specs.Families.{Family, count}

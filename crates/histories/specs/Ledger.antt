@@ -1,12 +1,13 @@
 -- The plain ledger: what a book holds, told from its opening and from the calls on it and their arguments alone.
 -- The rule of a call is read on the ledger, and no answer of a book is.
 use Rattle.std.specs.Prelude.{ℕ, ◌/◌, Bool, true, false, if◌then◌else◌, not, List, [], ◌∷◌, ◌++◌, length, ◌==◌, fold, take}
+use Rattle.std.specs.Borrow.{Bor}
 use Rattle.families.specs.declared.Transition.{Transition}
 use Rattle.families.specs.Families.{Family}
 use Rattle.book.specs.Lists.{without}
 use Rattle.book.specs.Rules.{state_count_fits, same_transition, product_answer, transition_answer, strike_answer}
 use Rattle.book.specs.Loads.{load_answer}
-use Rattle.book.specs.LoadLaw.{products_of, transitions_of}
+use Rattle.book.specs.LoadLaw.{products_of, transitions_of, Loaded}
 use Rattle.histories.specs.declared.calls.Call.{Call}
 use Rattle.histories.specs.declared.calls.Call.TheVariants as call
 
@@ -93,3 +94,9 @@ standing_at states calls k = standing_after states (take k calls)
 -- The ledger after the first k calls.
 abbrev pub ledger_at : ℕ → List Call → ℕ → Family
 ledger_at states calls k = (standing_at states calls k).ledger
+
+-- A load comes in whole or not at all, whatever the ledger and the bytes.
+abbrev pub LoadsAreWhole : Type 0
+LoadsAreWhole =
+    (ledger : Family) (bytes : Bor (List ℕ)) → let answer : ℕ × ℕ = load_answer ledger bytes.now in
+    Loaded ledger bytes.now answer.0 answer.1 (ledger_after ledger (call.Load bytes))

@@ -14,10 +14,11 @@ IsUnchanged kind cells kind' cells' = (kind' ≡ kind) × (cells' ≡ cells)
 
 -- `means` says of a kind which places are in a set, and `places` how many it has.
 module _ {K S : Type 0} (means : K → S → ℕ → Bool) (places : ℕ) where
-  -- A check leaves what its law says, with the number and the value that it answers.
+  -- A check leaves what its law says, with the number and the value that it answers, and every set its meaning.
   abbrev pub CheckLeaves : Family → List Expr → List Node → K → List S → K → List S → Type 0
   CheckLeaves F es ns kind cells kind' cells' =
-      (number value : ℕ) × CheckLaw means places F es ns kind cells kind' cells' number value
+      ((number value : ℕ) × CheckLaw means places F es ns kind cells kind' cells' number value)
+      × (means kind' ≡ means kind)
 
   -- A call that is no check of a closed book leaves all as it was.
   abbrev pub Leaves : Standing → Call → K → List S → K → List S → Type 0

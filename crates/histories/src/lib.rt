@@ -3,6 +3,7 @@
 
 pub mod calls;
 pub mod columns;
+pub mod laws;
 pub mod log;
 mod phase;
 pub mod run;

@@ -18,7 +18,7 @@ pub fn run<'c, 'b, K: Kind>(
     kind: &mut K,
     cells: &mut [K::Set],
 ) -> Result<Log<'c, 'b>, AllocError>
-    ensures of { IfOk result (λ log. log.history ≡ history.entry) }
+    ensures same { IfOk result (λ log. log.history ≡ history.entry) }
     ensures law { IfOk result (λ log. HistoryLaw K.places (length cells.old)
         history.entry.states history.entry.calls.now log.opening log.replies.items) }
     ensures left { IfOk result (λ _. Runs K.means K.places
