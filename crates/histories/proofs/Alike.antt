@@ -29,14 +29,16 @@ use Rattle.histories.specs.Columns.{table_of_column, answers, ledger_of, IsColum
 use Rattle.histories.proofs.Tables.{T-IsTrue, answer_in, holds_within}
 
 -- Plain checking of products that are alike gives the same at every entry and state.
-entry_alike : (F G : Family) (i j : ℕ) → Like F i G j → (es : List Expr) (ns : List Node) → Tree ns → (n s : ℕ)
+entry_alike : (F G : Family) (i j : ℕ) → Like F i G j
+    → (es : List Expr) (ns : List Node) → Tree ns → (n s : ℕ)
     → EntryHolds (projection F i) (config F i) es ns n s ↔ EntryHolds (projection G j) (config G j) es ns n s
 entry_alike F G i j like es ns tree n s =
     let T : ℕ → Type 0 =
     λ k. EntryHolds (projection F i) (config F i) es ns n s
     ↔ EntryHolds (system_of k G.transitions (config G j)) (config G j) es ns n s in
     subst T like.0
-    (extensional_entries F.states F.transitions G.transitions (config F i) (config G j) like.1 like.2 es ns tree n s)
+    (extensional_entries F.states F.transitions G.transitions (config F i) (config G j) like.1 like.2
+    es ns tree n s)
 
 -- A column that has a length is there.
 found : (o : Option (List Bool)) (m : ℕ) → option_map length o ≡ Some m
@@ -106,7 +108,8 @@ listed_once (Some xs) (Some ys) e = ap Some (cc)
 
 one_way : (x y : Option (List Bool)) → IsProp (x ≡ y)
 one_way = collapsible→set (λ x y e. listed_once x y (ap listed e))
-    (λ x y e f. ap (listed_once x y) (List-set (List-set Bool-set) (listed x) (listed y) (ap listed e) (ap listed f)))
+    (λ x y e f.
+    ap (listed_once x y) (List-set (List-set Bool-set) (listed x) (listed y) (ap listed e) (ap listed f)))
 
 -- The table of a column in an accepted check of these tables.
 module _ (c : Column) (es : List Expr) (ns : List Node) (of : IsColumnOf c es ns) where
@@ -131,7 +134,8 @@ column_law one other es ns a b like =
     its_answers one es ns a
     ∙ ∥∥₁_elim (is_plain one es ns a) (one_way _ _) (λ p.
     ∥∥₁_elim (is_plain other es ns b) (one_way _ _) (λ q.
-    columns_alike (ledger_of one) (ledger_of other) es ns (its_table one es ns a).0 (its_table other es ns b).0
+    columns_alike (ledger_of one) (ledger_of other) es ns
+    (its_table one es ns a).0 (its_table other es ns b).0
     one.product other.product a.product b.product like p q))
     ∙ sym (its_answers other es ns b)
 
@@ -150,7 +154,8 @@ column_within t p xs e = elim (cases_lt p (length t.columns.items)) [
       )
 ]
 
-answers_found : (c : Column) (t : Table) (xs : List Bool) → Some t ≡ table_of_column c → Some xs ≡ column t c.product
+answers_found : (c : Column) (t : Table) (xs : List Bool)
+    → Some t ≡ table_of_column c → Some xs ≡ column t c.product
     → answers c ≡ Some xs
 answers_found c t xs e f = ap (λ o. option_and_then (λ u. column u c.product) o) (sym e) ∙ sym f
 

@@ -1,5 +1,6 @@
 -- What a call leaves of a book's contents is the ledger after it.
-use Rattle.std.proofs.Common.{◌≡◌, ℕ, Bool, true, false, List, [], ◌∷◌, length, Result, Ok, Err, is_ok, if◌then◌else◌}
+use Rattle.std.proofs.Common.{◌≡◌, ℕ, Bool, true, false, List, [], ◌∷◌, length, Result, Ok, Err, is_ok}
+use Rattle.std.proofs.Common.{if◌then◌else◌}
 use Rattle.std.proofs.Common.{refl, sym, ap, ◌∙◌, subst, append-nil}
 use Rattle.std.specs.Prelude.{◌==◌}
 use Rattle.std.proofs.lemmas.Bool.{both_ways, or_left, or_parts}
@@ -10,12 +11,14 @@ use Rattle.book.specs.declared.refusals.Refusal.TheVariants.{NotHeld}
 use Rattle.book.specs.declared.refusals.Refusal.TheVariants as refusal
 use Rattle.book.specs.Answers.{number_of, answer_of}
 use Rattle.book.specs.Lists.{is_held, without}
-use Rattle.book.specs.Rules.{same_transition, product_result, product_after, transition_result, transition_after, strike_after}
+use Rattle.book.specs.Rules.{same_transition, product_result, product_after, transition_result}
+use Rattle.book.specs.Rules.{transition_after, strike_after}
 use Rattle.book.specs.Loads.{load_answer, load_after}
 use Rattle.book.specs.LoadLaw.{Loaded, ill_sized, first_bad, all_good}
 use Rattle.book.proofs.LoadLaw.{same_family, load_law}
 use Rattle.histories.specs.declared.calls.Call.TheVariants.{AddProduct, AddTransition, Strike}
-use Rattle.histories.specs.Ledger.{is_accepted, ledger_after, ledger_with_records, ledger_without, LoadsAreWhole}
+use Rattle.histories.specs.Ledger.{is_accepted, ledger_after, ledger_with_records, ledger_without}
+use Rattle.histories.specs.Ledger.{LoadsAreWhole}
 
 -- No refusal has the number of acceptance.
 number_of-nonzero : (r : Refusal) → number_of r == 0 ≡ false
@@ -39,11 +42,14 @@ if_same F G H a b e h = ap (λ c. if c then G else F) e ∙ ap (λ M. if b then 
 
 pub product_ledger : (F : Family) (c : ℕ) → product_after F c ≡ ledger_after F (AddProduct c)
 product_ledger F c =
-    if_same F _ _ _ _ (is_accepted-answer_of (product_result F c)) (same_family _ _ refl refl (sym (append-nil F.transitions)))
+    if_same F _ _ _ _ (is_accepted-answer_of (product_result F c))
+    (same_family _ _ refl refl (sym (append-nil F.transitions)))
 
-pub transition_ledger : (F : Family) (t : Transition) → transition_after F t ≡ ledger_after F (AddTransition t)
+pub transition_ledger : (F : Family) (t : Transition)
+    → transition_after F t ≡ ledger_after F (AddTransition t)
 transition_ledger F t =
-    if_same F _ _ _ _ (is_accepted-answer_of (transition_result F t)) (same_family _ _ refl (sym (append-nil F.products)) refl)
+    if_same F _ _ _ _ (is_accepted-answer_of (transition_result F t))
+    (same_family _ _ refl (sym (append-nil F.products)) refl)
 
 -- What is not in a list is not removed from it.
 without_absent : {X : Type 0} (same : X → X → Bool) (x : X) (ys : List X)
@@ -63,7 +69,8 @@ strike_ledger F t = go (is_held same_transition t F.transitions) refl
     left = length (without same_transition t F.transitions)
 
     go : (b : Bool) → is_held same_transition t F.transitions ≡ b
-        → ledger_without F t ≡ (if is_accepted (answer_of (if b then Ok left else Err NotHeld)) then ledger_without F t else F)
+        → ledger_without F t
+        ≡ (if is_accepted (answer_of (if b then Ok left else Err NotHeld)) then ledger_without F t else F)
     go true e = refl
     go false e = same_family _ _ refl refl (without_absent same_transition t F.transitions e)
 

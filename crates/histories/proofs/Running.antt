@@ -1,5 +1,6 @@
 -- A run, call by call.
-use Rattle.std.proofs.Common.{◌≡◌, ℕ, ◌+◌, ◌<◌, Bool, true, false, not, List, [], ◌∷◌, ◌++◌, length, get_or, take}
+use Rattle.std.proofs.Common.{◌≡◌, ℕ, ◌+◌, ◌<◌, Bool, true, false, not, List, [], ◌∷◌, ◌++◌, length, get_or}
+use Rattle.std.proofs.Common.{take}
 use Rattle.std.proofs.Common.{Some, Result, Ok, Err, OnErr, sym, ap, ◌∙◌, subst}
 use Rattle.std.specs.Bool.{MatchBool}
 use Rattle.std.specs.Borrow.{Bor}
@@ -17,7 +18,8 @@ use Rattle.histories.specs.declared.log.Reply.TheVariants.{NotAdmitted}
 use Rattle.histories.specs.declared.table.Table.{Table}
 use Rattle.histories.specs.Ledger.{Standing, next_standing, first_standing, standing_at}
 use Rattle.histories.specs.Tables.{IsPlainTable}
-use Rattle.histories.specs.Logs.{IsReplyToCheck, refused, accepted, IsReply, AreReplies, table_of, HoldsPlainTables}
+use Rattle.histories.specs.Logs.{IsReplyToCheck, refused, accepted, IsReply, AreReplies, table_of}
+use Rattle.histories.specs.Logs.{HoldsPlainTables}
 use Rattle.histories.specs.Runs.{Leaves, Runs, none, more, RunsFront}
 use Rattle.histories.proofs.Lists.{each_pushed}
 
@@ -28,7 +30,8 @@ on_err (Err e) P p = p
 -- Without a book nothing is run.
 pub front_none : {K S X E : Type 0} (means : K → S → ℕ → Bool) (places states : ℕ) (k : K) (xs : List S)
     (calls : List Call) (r : Result X E) → OnErr r (RunsFront means places states k xs calls k xs)
-front_none means places states k xs calls r = on_err r (RunsFront means places states k xs calls k xs) (0, none)
+front_none means places states k xs calls r =
+    on_err r (RunsFront means places states k xs calls k xs) (0, none)
 
 -- Call i of a history, in the standing there.
 module _ (states : ℕ) (calls : List Call) (i : ℕ) (d : Call) (i< : i < length calls)
@@ -39,7 +42,8 @@ module _ (states : ℕ) (calls : List Call) (i : ℕ) (d : Call) (i< : i < lengt
   -- The standing after it,
   pub standing_more : (t : Standing) → t ≡ next_standing s call_i → t ≡ standing_at states calls (i + 1)
   standing_more t e =
-      e ∙ ap (λ x. next_standing x call_i) at ∙ sym (fold_more next_standing (first_standing states) calls i d i<)
+      e ∙ ap (λ x. next_standing x call_i) at
+      ∙ sym (fold_more next_standing (first_standing states) calls i d i<)
 
   -- the replies with its reply,
   pub replies_more : (places cells : ℕ) (replies : List Reply) (reply : Reply) → length replies ≡ i
@@ -47,7 +51,8 @@ module _ (states : ℕ) (calls : List Call) (i : ℕ) (d : Call) (i< : i < lengt
       → AreReplies places cells states calls (replies ++ reply ∷ [])
   replies_more places cells replies reply many each last k c r is_c is_r =
       let P : ℕ → Reply → Type 0 =
-      λ j y. (b : Call) → slice_get calls j ≡ Some b → IsReply places cells (standing_at states calls j) b y in
+      λ j y. (b : Call) → slice_get calls j ≡ Some b
+      → IsReply places cells (standing_at states calls j) b y in
       let here : P i reply =
       λ b is_b. subst (λ (x : Call). IsReply places cells (standing_at states calls i) x reply)
       (same_Some _ _ (sym (slice_get-get_or calls i d i<) ∙ is_b))
@@ -66,7 +71,8 @@ module _ (states : ℕ) (calls : List Call) (i : ℕ) (d : Call) (i< : i < lengt
         (more call_i run left)
 
     -- and what is left if memory ends there.
-    pub front_more : {X E : Type 0} (r : Result X E) → OnErr r (RunsFront means places states k xs calls k'' xs'')
+    pub front_more : {X E : Type 0} (r : Result X E)
+        → OnErr r (RunsFront means places states k xs calls k'' xs'')
     front_more r = on_err r (RunsFront means places states k xs calls k'' xs'') (i + 1, runs_more)
 
 -- The table of a reply to a check is plain checking.
@@ -75,8 +81,8 @@ table_is_plain : {places cells : ℕ} (F : Family) (es : List Expr) (ns : List N
 table_is_plain F es ns t r (refused off a) e = absurd (none-some _ e)
 table_is_plain F es ns t r (accepted p a) e = subst (IsPlainTable F es ns) (same_Some _ _ e) p
 
-reply_is_plain : (places cells : ℕ) (s : Standing) (exprs : Bor (List Expr)) (nodes : Bor (List Node)) (t : Table)
-    (r : Reply) → IsReply places cells s (Check exprs nodes) r → table_of r ≡ Some t
+reply_is_plain : (places cells : ℕ) (s : Standing) (exprs : Bor (List Expr)) (nodes : Bor (List Node))
+    (t : Table) (r : Reply) → IsReply places cells s (Check exprs nodes) r → table_of r ≡ Some t
     → IsPlainTable s.ledger exprs.now nodes.now t
 reply_is_plain places cells s exprs nodes t r = go s.is_open
   where
@@ -90,4 +96,5 @@ pub plain_tables : (places cells states : ℕ) (calls : List Call) (replies : Li
     → AreReplies places cells states calls replies → HoldsPlainTables states calls replies
 plain_tables places cells states calls replies each k exprs nodes t is_call is_table =
     option_and_then_some table_of (slice_get replies k) t is_table
-    (λ r is_r e. reply_is_plain places cells (standing_at states calls k) exprs nodes t r (each k _ r is_call is_r) e)
+    (λ r is_r e.
+    reply_is_plain places cells (standing_at states calls k) exprs nodes t r (each k _ r is_call is_r) e)

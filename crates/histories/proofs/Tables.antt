@@ -1,5 +1,6 @@
 -- From what a check leaves in the cells to the table that is read from them.
-use Rattle.std.proofs.Common.{◌≡◌, ◌≢◌, ℕ, zero, suc, ◌+◌, ◌*◌, ◌<◌, ◌≤◌, Bool, true, false, ◌&&◌, T, ◌↔◌, IsTrue}
+use Rattle.std.proofs.Common.{◌≡◌, ◌≢◌, ℕ, zero, suc, ◌+◌, ◌*◌, ◌<◌, ◌≤◌, Bool, true, false, ◌&&◌, T, ◌↔◌}
+use Rattle.std.proofs.Common.{IsTrue}
 use Rattle.std.proofs.Common.{List, [], ◌∷◌, length, nat_lt, map, take, Option, Some, None}
 use Rattle.std.proofs.Common.{refl, sym, ap, ◌∙◌, subst, inl, inr, add-zero, arith}
 use Rattle.std.specs.List.{slice_get}
@@ -37,7 +38,8 @@ slice_get-take (suc n) [] i h = refl
 slice_get-take (suc n) (x ∷ xs) zero h = refl
 slice_get-take (suc n) (x ∷ xs) (suc i) h = slice_get-take n xs i (omega arith)
 
-unwrap_or-map : {X : Type 0} (f : X → Bool) (o : Option X) → unwrap_or (option_map f o) false ≡ option_map_or f o false
+unwrap_or-map : {X : Type 0} (f : X → Bool) (o : Option X)
+    → unwrap_or (option_map f o) false ≡ option_map_or f o false
 unwrap_or-map f None = refl
 unwrap_or-map f (Some x) = refl
 
@@ -67,7 +69,8 @@ module _ {X : Type 0} (mean : X → ℕ → Bool) (cells : List X) (F : Family) 
   holds_product n s p n< s< p< =
       holds_within t n s p (omega (arith, read.entries)) (omega (arith, read.states))
       ∙ ap (λ answers. answer_in answers (n * t.states + s)) (read.columns p p<)
-      ∙ ap (λ k. answer_in (Some (map (λ set. mean set p) (take (entries * F.states) cells))) (n * k + s)) read.states
+      ∙ ap (λ k. answer_in (Some (map (λ set. mean set p) (take (entries * F.states) cells))) (n * k + s))
+      read.states
       ∙ read_cell (λ set. mean set p) (entries * F.states) cells (n * F.states + s)
       (omega (arith, row_below n entries F.states n<))
 
@@ -89,7 +92,8 @@ module _ {X : Type 0} (mean : X → ℕ → Bool) (cells : List X) (F : Family) 
     products = read.products;
     sized = λ p p<.
         ap (option_map length) (read.columns p p<)
-        ∙ ap Some (length-map _ _ ∙ length-take-le (entries * F.states) cells room ∙ ap (λ k. k * F.states) e);
+        ∙ ap Some
+        (length-map _ _ ∙ length-take-le (entries * F.states) cells room ∙ ap (λ k. k * F.states) e);
     plain = λ n s p n< s<. elim (cases_lt p (count F)) [
       | inl p< ↦ (
           let same = holds_product n s p (omega (arith, e)) s< p< in
@@ -110,7 +114,8 @@ module _ {X : Type 0} (mean : X → ℕ → Bool) (cells : List X) (F : Family) 
 module _ (F : Family) (es : List Expr) (ns : List Node) {places cells : ℕ} where
   counted_by : {whole : ℕ → Bool} (whole' : ℕ → Bool) {number value : ℕ}
       → Answered F es ns places cells whole number value
-      → (number ≡ 0 → (p : ℕ) → p < count F → whole p ≡ whole' p) → Answered F es ns places cells whole' number value
+      → (number ≡ 0 → (p : ℕ) → p < count F → whole p ≡ whole' p)
+      → Answered F es ns places cells whole' number value
   counted_by whole' (refused_tables j n) same = refused_tables j n
   counted_by whole' (too_many_products s l) same = too_many_products s l
   counted_by whole' (too_few_cells s p l) same = too_few_cells s p l
@@ -132,7 +137,8 @@ module _ {K S : Type 0} (means : K → S → ℕ → Bool) (places : ℕ) (F : F
       refused off (counted_by F es ns {whole = whole} (λ p. false) law.answer (λ ok. absurd (off ok)))
 
   pub accepted_reply : (t : Table) → 1 ≤ F.states → length cells' ≡ length cells → number ≡ 0
-      → Reads F (length ns) (means kind') cells' t → IsReplyToCheck places (length cells) F es ns (Checked value t)
+      → Reads F (length ns) (means kind') cells' t
+      → IsReplyToCheck places (length cells) F es ns (Checked value t)
   unfolding whole
   accepted_reply t some long ok read =
       let sound = answered_sound F es ns {whole = whole} law.answer ok in

@@ -23,7 +23,8 @@ answers c = option_and_then (λ table. column table c.product) (table_of_column 
 abbrev pub ledger_of : Column → Family
 ledger_of c = ledger_at c.log.now.history.states c.log.now.history.calls.now c.position
 
--- Two columns can be compared: they are in tables with equally many entries and states, and of products there.
+-- Two columns can be compared: they are in tables with equally many entries and states, and of products
+-- there.
 pub record AreComparable (one other : Column) : Type 0 where
   pub table : Table
   pub other_table : Table
@@ -34,7 +35,8 @@ pub record AreComparable (one other : Column) : Type 0 where
   pub product : one.product < length table.columns.items
   pub other_product : other.product < length other_table.columns.items
 
--- A comparison answers none where there is nothing to compare, and else whether the two have the same answers.
+-- A comparison answers none where there is nothing to compare, and else whether the two have the same
+-- answers.
 abbrev pub Compares : Column → Column → Option Bool → Type 0
 Compares one other None = ¬ AreComparable one other
 Compares one other (Some same) = AreComparable one other × (IsTrue same ↔ (answers one ≡ answers other))
@@ -49,9 +51,9 @@ pub record IsColumnOf (c : Column) (es : List Expr) (ns : List Node) : Type 0 wh
   pub accepted : IsSome (table_of_column c)
   pub product : c.product < count (ledger_of c)
 
--- The column law. Two products that are alike, in configuration and in own transitions as the ledgers of two accepted
--- checks then have them, have the same answers in these checks of the same tables: of one run or of two, whatever the
--- order, the numbering, the neighbours and the kinds.
+-- The column law. Two products that are alike, in configuration and in own transitions as the ledgers of two
+-- accepted checks then have them, have the same answers in these checks of the same tables: of one run or of
+-- two, whatever the order, the numbering, the neighbours and the kinds.
 abbrev pub ColumnLaw : Column → Column → Type 0
 ColumnLaw one other =
     (es : List Expr) (ns : List Node) → IsColumnOf one es ns → IsColumnOf other es ns

@@ -1,11 +1,13 @@
--- The plain ledger: what a book holds, told from its opening and from the calls on it and their arguments alone.
--- The rule of a call is read on the ledger, and no answer of a book is.
-use Rattle.std.specs.Prelude.{ℕ, ◌/◌, Bool, true, false, if◌then◌else◌, not, List, [], ◌∷◌, ◌++◌, length, ◌==◌, fold, take}
+-- The plain ledger: what a book holds, told from its opening and from the calls on it and their arguments
+-- alone. The rule of a call is read on the ledger, and no answer of a book is.
+use Rattle.std.specs.Prelude.{ℕ, ◌/◌, Bool, true, false, if◌then◌else◌, not, List, [], ◌∷◌, ◌++◌, length}
+use Rattle.std.specs.Prelude.{◌==◌, fold, take}
 use Rattle.std.specs.Borrow.{Bor}
 use Rattle.families.specs.declared.Transition.{Transition}
 use Rattle.families.specs.Families.{Family}
 use Rattle.book.specs.Lists.{without}
-use Rattle.book.specs.Rules.{state_count_fits, same_transition, product_answer, transition_answer, strike_answer}
+use Rattle.book.specs.Rules.{state_count_fits, same_transition, product_answer, transition_answer}
+use Rattle.book.specs.Rules.{strike_answer}
 use Rattle.book.specs.Loads.{load_answer}
 use Rattle.book.specs.LoadLaw.{products_of, transitions_of, Loaded}
 use Rattle.histories.specs.declared.calls.Call.{Call}
@@ -29,10 +31,12 @@ ledger_without ledger t = record ledger { transitions = without same_transition 
 -- A ledger with all records of a load.
 abbrev pub ledger_with_records : Family → List ℕ → Family
 ledger_with_records ledger bytes =
-    let records = length bytes / 8 in ledger_with ledger (products_of bytes records) (transitions_of bytes records)
+    let records = length bytes / 8 in
+    ledger_with ledger (products_of bytes records) (transitions_of bytes records)
 
--- The ledger after a call. Unless the call's rule refuses it, an addition or a load puts its products and transitions
--- at the ends of the lists, in order, and a strike removes the equal transition. All else changes nothing.
+-- The ledger after a call. Unless the call's rule refuses it, an addition or a load puts its products and
+-- transitions at the ends of the lists, in order, and a strike removes the equal transition. All else changes
+-- nothing.
 abbrev pub ledger_after : Family → Call → Family
 ledger_after ledger (call.AddProduct c) =
     if is_accepted (product_answer ledger c) then ledger_with ledger (c ∷ []) [] else ledger
@@ -77,7 +81,8 @@ next_standing standing call =
     if is_admitted standing.is_open call
     then record { is_open = is_open_after call; ledger = ledger_after standing.ledger call } else standing
 
--- A book is opened with S states, or with 1 where opening refuses so many. It is open then, and both lists are empty.
+-- A book is opened with S states, or with 1 where opening refuses so many. It is open then, and both lists
+-- are empty.
 abbrev pub first_standing : ℕ → Standing
 first_standing states = record {
   is_open = true;

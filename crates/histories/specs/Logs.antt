@@ -1,5 +1,6 @@
 -- The history law: what every call of a history is answered.
-use Rattle.std.specs.Prelude.{◌≡◌, ◌≢◌, ℕ, false, List, length, Option, None, Some, slice_get, option_and_then, MatchBool}
+use Rattle.std.specs.Prelude.{◌≡◌, ◌≢◌, ℕ, false, List, length, Option, None, Some, slice_get}
+use Rattle.std.specs.Prelude.{option_and_then, MatchBool}
 use Rattle.std.specs.Borrow.{Bor}
 use Rattle.families.specs.Families.{Family}
 use Rattle.formulas.specs.Tables.{last}
@@ -20,9 +21,11 @@ use Rattle.histories.specs.Tables.{holds, IsPlainTable}
 abbrev pub reply_of : ℕ × ℕ → Reply
 reply_of rule = Answer rule.0 rule.1
 
--- The reply to a check on the ledger F, by a kind with so many places and in so many cells: the refusal by its rule;
--- or how many products have the last entry in state 0, counted in the table beside it, which is plain checking.
-pub data IsReplyToCheck (places cells : ℕ) (F : Family) (es : List Expr) (ns : List Node) : Reply → Type 0 where
+-- The reply to a check on the ledger F, by a kind with so many places and in so many cells: the refusal by
+-- its rule; or how many products have the last entry in state 0, counted in the table beside it, which is
+-- plain checking.
+pub data IsReplyToCheck (places cells : ℕ) (F : Family) (es : List Expr) (ns : List Node)
+    : Reply → Type 0 where
   refused : {number value : ℕ} → number ≢ 0 → Answered F es ns places cells (λ p. false) number value
       → IsReplyToCheck places cells F es ns (Answer number value)
   accepted : {value : ℕ} {table : Table} → IsPlainTable F es ns table
@@ -36,7 +39,8 @@ IsReplyTo places cells F (call.AddTransition t) reply = reply ≡ reply_of (tran
 IsReplyTo places cells F (call.Strike t) reply = reply ≡ reply_of (strike_answer F t)
 IsReplyTo places cells F (call.Load bytes) reply = reply ≡ reply_of (load_answer F bytes.now)
 IsReplyTo places cells F call.Close reply = reply ≡ Done
-IsReplyTo places cells F (call.Check exprs nodes) reply = IsReplyToCheck places cells F exprs.now nodes.now reply
+IsReplyTo places cells F (call.Check exprs nodes) reply =
+    IsReplyToCheck places cells F exprs.now nodes.now reply
 IsReplyTo places cells F call.Reopen reply = reply ≡ Done
 
 -- The reply to any call.
@@ -51,8 +55,8 @@ AreReplies places cells states calls replies =
     (k : ℕ) (call : Call) (reply : Reply) → slice_get calls k ≡ Some call → slice_get replies k ≡ Some reply
     → IsReply places cells (standing_at states calls k) call reply
 
--- The history law. Opening is answered by its rule, and every call of the list has its reply: the one that its rule,
--- or for a check plain checking, gives on the ledger that the calls before it leave.
+-- The history law. Opening is answered by its rule, and every call of the list has its reply: the one that
+-- its rule, or for a check plain checking, gives on the ledger that the calls before it leave.
 pub record HistoryLaw (places cells states : ℕ) (calls : List Call) (opening : ℕ × ℕ) (replies : List Reply)
     : Type 0 where
   pub opening_answer : opening ≡ open_answer states

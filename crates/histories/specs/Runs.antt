@@ -14,7 +14,8 @@ IsUnchanged kind cells kind' cells' = (kind' ≡ kind) × (cells' ≡ cells)
 
 -- `means` says of a kind which places are in a set, and `places` how many it has.
 module _ {K S : Type 0} (means : K → S → ℕ → Bool) (places : ℕ) where
-  -- A check leaves what its law says, with the number and the value that it answers, and every set its meaning.
+  -- A check leaves what its law says, with the number and the value that it answers, and every set its
+  -- meaning.
   abbrev pub CheckLeaves : Family → List Expr → List Node → K → List S → K → List S → Type 0
   CheckLeaves F es ns kind cells kind' cells' =
       ((number value : ℕ) × CheckLaw means places F es ns kind cells kind' cells' number value)
@@ -32,8 +33,8 @@ module _ {K S : Type 0} (means : K → S → ℕ → Bool) (places : ℕ) where
       (CheckLeaves standing.ledger exprs.now nodes.now kind cells kind' cells')
   Leaves standing call.Reopen kind cells kind' cells' = IsUnchanged kind cells kind' cells'
 
--- The calls of a history on a book that is opened with so many states, one after the other, each in the standing and
--- with the kind and the cells that those before it leave.
+-- The calls of a history on a book that is opened with so many states, one after the other, each in the
+-- standing and with the kind and the cells that those before it leave.
 pub data Runs {K S : Type 0} (means : K → S → ℕ → Bool) (places states : ℕ) (kind : K) (cells : List S)
     : List Call → K → List S → Type 0 where
   none : Runs means places states kind cells [] kind cells
@@ -43,6 +44,7 @@ pub data Runs {K S : Type 0} (means : K → S → ℕ → Bool) (places states :
       → Runs means places states kind cells (calls ++ call ∷ []) kind'' cells''
 
 -- The first calls of a history, as many as there was memory for.
-abbrev pub RunsFront : {K S : Type 0} → (K → S → ℕ → Bool) → ℕ → ℕ → K → List S → List Call → K → List S → Type 0
+abbrev pub RunsFront : {K S : Type 0} → (K → S → ℕ → Bool) → ℕ → ℕ → K → List S
+    → List Call → K → List S → Type 0
 RunsFront means places states kind cells calls kind' cells' =
     (k : ℕ) × Runs means places states kind cells (take k calls) kind' cells'

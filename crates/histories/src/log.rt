@@ -20,11 +20,13 @@ pub enum Reply {
 /// The log of a run: for each call of its history, in order, what became of it.
 #[derive(Drop)]
 pub struct Log<'c, 'b> {
+    /// The history that was run.
     pub history: History<'c, 'b>,
     /// The number and the value of opening.
     pub opening: (u8, usize),
+    /// The replies to the calls, in order.
     pub replies: Vec<Reply>,
-    /// Every table is plain checking on the ledger of its call: what is read from a log rests on no other run.
+    /// Every table is plain checking on the ledger of its call, so who reads a log need ask for no more.
     pub ghost plain: { ∥ HoldsPlainTables history.states history.calls.now replies.items ∥₁ },
 }
 

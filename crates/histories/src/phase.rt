@@ -26,7 +26,8 @@ pub(crate) enum Phase {
 // A call on an open book. It is no check, so its reply is one whatever the kind and the cells.
 fn call_open(mut book: OpenBook, call: &Call<'_>) -> (Phase, Reply)
     ensures standing { standing_of result.0 ≡ next_standing (standing_of (Open book)) call.now }
-    ensures reply { (places cells : ℕ) → IsReply places cells (standing_of (Open book)) call.now result.1 }
+    ensures reply { (places cells : ℕ)
+        → IsReply places cells (standing_of (Open book)) call.now result.1 }
 {
     let (number, value) = match call {
         Call::AddProduct(configuration) => book.add_product(*configuration),
@@ -39,7 +40,8 @@ fn call_open(mut book: OpenBook, call: &Call<'_>) -> (Phase, Reply)
     (Phase::Open(book), Reply::Answer(number, value))
 }
 
-// A check on a closed book, and the table of an accepted one. Where memory ends at the table the check is done.
+// A check on a closed book, and the table of an accepted one. Where memory ends at the table the check is
+// done.
 fn check<K: Kind>(
     alloc: Global,
     book: &ClosedBook,
@@ -70,7 +72,8 @@ impl Phase {
         kind: &mut K,
         cells: &mut [K::Set],
     ) -> Result<(Phase, Reply), AllocError>
-        ensures standing { IfOk result (λ after. standing_of after.0 ≡ next_standing (standing_of self) call.now) }
+        ensures standing { IfOk result (λ after.
+            standing_of after.0 ≡ next_standing (standing_of self) call.now) }
         ensures reply { IfOk result (λ after. IsReply K.places (length cells.old)
             (standing_of self) call.now after.1) }
         ensures left { Leaves K.means K.places

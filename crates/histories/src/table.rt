@@ -5,14 +5,15 @@ use book::books::ClosedBook;
 use product_sets::Kind;
 use std::alloc::{AllocError, Global};
 
-/// The products at which each entry of a formula holds in each state. It owns all that it says, so it goes on saying the
-/// same whatever becomes of the kind, the cells and the book that it was made from.
+/// The products at which each entry of a formula holds in each state. It owns all that it says, so it goes on
+/// saying the same whatever becomes of the kind, the cells and the book that it was made from.
 #[derive(Drop)]
 pub struct Table {
-    /// How many entries the formula has, and how many states the book.
+    /// How many entries the formula has.
     pub entries: usize,
+    /// How many states the book has.
     pub states: usize,
-    /// For each product, entry after entry and state after state, whether the entry holds there.
+    /// For each product its column: whether the entry holds, entry after entry and state after state.
     pub columns: Vec<Vec<bool>>,
     pub ghost fits: { entries * states < 2 ^ 64 },
 }
@@ -46,7 +47,8 @@ impl Table {
         cells: &[K::Set],
     ) -> Result<Table, AllocError>
         requires { entries * (closed_contents book.now).states ≤ length cells.now }
-        ensures { IfOk result (λ t. Reads (closed_contents book.now) entries (K.means kind.now) cells.now t) }
+        ensures { IfOk result (λ table.
+            Reads (closed_contents book.now) entries (K.means kind.now) cells.now table) }
     {
         let states = book.states();
         let rows = &cells[..entries * states];

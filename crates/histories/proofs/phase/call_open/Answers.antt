@@ -15,7 +15,8 @@ open_with ledger = record { is_open = true; ledger = ledger }
 pub returns-clause-standing : goal.returns-clause-standing
 returns-clause-standing c =
     let L = contents c.args.book in
-    let P : Call → Type 0 = λ call. open_with (contents c.match-call.book) ≡ next_standing (open_with L) call in
+    let P : Call → Type 0 =
+    λ call. open_with (contents c.match-call.book) ≡ next_standing (open_with L) call in
     elim c.match-call.branch [
       | in-AddProduct w ↦ subst P (sym w.in-AddProduct.is)
           (ap open_with (ap contents w.book-is ∙ w.add_product.ensures.book ∙ product_ledger L _))
@@ -25,6 +26,8 @@ returns-clause-standing c =
           (ap open_with (ap contents w.book-is ∙ w.strike.ensures.book ∙ strike_ledger L _))
       | in-Load w ↦
           let bytes = w.in-Load.bytes.now in
-          let rule = ap (λ (answer : ℕ × ℕ). if answer.0 == 0 then ledger_with_records L bytes else L) w.load.ensures.answer in
-          subst P (sym w.in-Load.is) (ap open_with (ap contents w.book-is ∙ load_ledger L bytes _ _ _ w.load.ensures.law ∙ rule))
+          let left : ℕ × ℕ → Family = λ answer. if answer.0 == 0 then ledger_with_records L bytes else L in
+          let law = load_ledger L bytes _ _ _ w.load.ensures.law in
+          subst P (sym w.in-Load.is)
+          (ap open_with (ap contents w.book-is ∙ law ∙ ap left w.load.ensures.answer))
     ]

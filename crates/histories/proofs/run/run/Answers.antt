@@ -8,7 +8,8 @@ use Rattle.histories.specs.declared.log.Reply.{Reply}
 use Rattle.histories.specs.Ledger.{Standing}
 use Rattle.histories.specs.Logs.{AreReplies}
 use Rattle.histories.specs.Runs.{none}
-use Rattle.histories.proofs.Running.{front_none, front_more, standing_more, runs_more, replies_more, plain_tables}
+use Rattle.histories.proofs.Running.{front_none, front_more, standing_more, runs_more, replies_more}
+use Rattle.histories.proofs.Running.{plain_tables}
 use Rattle.histories.proofs.run.run.Goals as goal
 
 -- The standing of an open book.
@@ -34,15 +35,17 @@ loop-call-init g c =
 pub returns-in_err-next-clause-failed : goal.returns-in_err-next-clause-failed
 returns-in_err-next-clause-failed g c =
     let before = c.loop-call.invariant in
-    front_more c.args.history.states c.args.history.calls.now c.loop-call.call-index (AddProduct 0) (omega arith)
-    _ before.standing g.K.Kind.means g.K.Kind.places _ _ _ _ _ _ before.runs c.in_err-next.ensures.left
+    front_more c.args.history.states c.args.history.calls.now c.loop-call.call-index (AddProduct 0)
+    (omega arith) _ before.standing g.K.Kind.means g.K.Kind.places _ _ _ _ _ _ before.runs
+    c.in_err-next.ensures.left
     c.from_residual-in_err-next.result
 
 pub returns-in_err-push-clause-failed : goal.returns-in_err-push-clause-failed
 returns-in_err-push-clause-failed g c =
     let before = c.loop-call.invariant in
-    front_more c.args.history.states c.args.history.calls.now c.loop-call.call-index (AddProduct 0) (omega arith)
-    _ before.standing g.K.Kind.means g.K.Kind.places _ _ _ _ _ _ before.runs c.in_ok-next.ensures.left
+    front_more c.args.history.states c.args.history.calls.now c.loop-call.call-index (AddProduct 0)
+    (omega arith) _ before.standing g.K.Kind.means g.K.Kind.places _ _ _ _ _ _ before.runs
+    c.in_ok-next.ensures.left
     c.from_residual-in_err-push.result
 
 pub loop-call-preserved : goal.loop-call-preserved
@@ -61,7 +64,8 @@ loop-call-preserved g c =
     record {
       standing = standing_more states calls i (AddProduct 0) (omega arith) _ before.standing _ next.standing;
       whole =
-          ap length pushed ∙ length_push c.loop-call.replies.items c.in_ok-next.reply ∙ ap (λ n. n + 1) before.whole;
+          ap length pushed ∙ length_push c.loop-call.replies.items c.in_ok-next.reply
+          ∙ ap (λ n. n + 1) before.whole;
       each = subst (λ (n : ℕ). AreReplies N n states calls c.push.new.self.items) (sym c.after.auto.cells)
           (subst (λ (rs : List Reply). AreReplies N room states calls rs) (sym pushed) each);
       runs = runs_more states calls i (AddProduct 0) (omega arith) _ before.standing
