@@ -7,7 +7,7 @@ ghost use Rattle.std.specs.Prelude.{◌≡◌, ℕ, ◌+◌, ◌<◌, ◌≤◌,
 ghost use Rattle.lexer.specs.Tokens.{Name, NoWord, in_name, tok};
 ghost use Rattle.lexer.specs.Cuts.{after_spaces, after_name, word_of, tok_of, place_of, seen, first_at, Onward, Lawful};
 
-pub use tokens::{LONGEST_TEXT, Text, Tokens};
+pub use tokens::{LONGEST_TEXT, Text};
 
 // How many bytes a name has at most.
 const LONGEST_NAME: usize = 12;
@@ -36,9 +36,9 @@ pub enum Sign {
 /// variable (the makers' letter) is numbered 0 to 25 for A to Z.
 #[derive(Clone, Copy)]
 pub enum Token<'t> {
-    Name(&'t [u8], usize),
-    Variable(u8, usize),
     Sign(Sign, usize),
+    Variable(u8, usize),
+    Name(&'t [u8], usize),
 }
 
 impl<'t> Token<'t> {

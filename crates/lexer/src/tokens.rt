@@ -1,7 +1,7 @@
 // The tokens of a text, in a table.
-ghost use Rattle.std.specs.Prelude.{◌≡◌, ◌<◌, ◌≤◌, ◌+◌, [], ◌∷◌, ◌++◌, length, take, MatchOption, MatchResult};
+ghost use Rattle.std.specs.Prelude.{◌≡◌, ◌<◌, ◌≤◌, length, take, MatchOption, MatchResult};
 
-use crate::{NoToken, Sign, Token, next_token};
+use crate::{NoToken, Token, next_token};
 
 /// How many bytes a text has at most.
 pub const LONGEST_TEXT: usize = 1024;
@@ -14,7 +14,7 @@ pub struct Text<'t> {
 }
 
 impl<'t> Text<'t> {
-    ghost use Rattle.lexer.specs.Texts.{TokensOf, NoTokenAt, listed};
+    ghost use Rattle.lexer.specs.Texts.{TokensOf, NoTokenAt, toks};
 
     /// The text, unless it is too long.
     pub fn new(bytes: &'t [u8]) -> Option<Text<'t>>
@@ -34,57 +34,19 @@ impl<'t> Text<'t> {
         self.bytes.len()
     }
 
-    /// The tokens of the text, in order, or the first place where none begins.
-    pub fn tokens(self) -> Result<Tokens<'t>, NoToken>
-        ensures { MatchResult result (λ tokens. TokensOf self.entry.bytes.now 0 (listed tokens)) (λ bad. NoTokenAt self.entry.bytes.now 0 bad.0) }
+    /// Writes the tokens of the text, in order, from the start of a table, and answers their count; or answers the first
+    /// place where no token begins. A text has no more tokens than bytes, so the table has room for them.
+    pub fn tokens(self, table: &mut [Token<'t>; LONGEST_TEXT]) -> Result<usize, NoToken>
+        ensures length { length table.new ≡ 1024 }
+        ensures tokens { MatchResult result (λ count. (count ≤ 1024) × TokensOf self.entry.bytes.now 0 (toks (take count table.new))) (λ bad. NoTokenAt self.entry.bytes.now 0 bad.0) }
     {
-        let mut tokens = Tokens::none();
+        let mut count = 0;
         let mut at = 0;
         while let Some(found) = next_token(self.bytes, at)? {
-            tokens.push(found.token);
+            table[count] = found.token;
+            count += 1;
             at = found.end;
         }
-        Ok(tokens)
-    }
-}
-
-/// The tokens of a text. A text has no more tokens than bytes, so a table of fixed length holds them.
-#[derive(Clone, Copy)]
-pub struct Tokens<'t> {
-    table: [Token<'t>; LONGEST_TEXT],
-    count: usize,
-    ghost whole: { length table ≡ 1024 },
-    ghost fits: { count ≤ 1024 },
-}
-
-impl<'t> Tokens<'t> {
-    ghost use Rattle.lexer.specs.Texts.{toks, listed};
-    ghost use Rattle.lexer.specs.Cuts.{tok_of};
-
-    fn none() -> Tokens<'t>
-        ensures tokens { listed result ≡ [] }
-        ensures count { result.count ≡ 0 }
-    {
-        Tokens {
-            table: [Token::Sign(Sign::Dot, 0); LONGEST_TEXT],
-            count: 0,
-        }
-    }
-
-    fn push(&mut self, token: Token<'t>)
-        requires { self.old.count < 1024 }
-        ensures tokens { listed self.new ≡ listed self.old ++ tok_of token.entry ∷ [] }
-        ensures count { self.new.count ≡ self.old.count + 1 }
-    {
-        self.table[self.count] = token;
-        self.count += 1;
-    }
-
-    /// The tokens as a slice: at most 1,024.
-    pub fn as_slice(&self) -> &[Token<'t>]
-        ensures tokens { toks result.now ≡ listed self.now }
-        ensures few { length result.now ≤ 1024 }
-    {
-        &self.table[..self.count]
+        Ok(count)
     }
 }

@@ -16,7 +16,7 @@ ghost use Rattle.formulas.specs.declared.Node.TheVariants as nd;
 use formulas::judge::MAX_ENTRIES;
 use formulas::{Expr, Node};
 pub use lexer::LONGEST_TEXT;
-use lexer::Text;
+use lexer::{Sign, Text, Token};
 use parser::parse;
 pub use refusals::Refusal;
 pub use vocabulary::{MAX_ACTIONS, MAX_FEATURES, Vocabulary};
@@ -39,8 +39,10 @@ fn attempt(
     let Some(names) = names else {
         return Err(Refusal::WordList);
     };
-    let tokens = text.tokens()?;
-    parse(tokens.as_slice(), text.len(), names, exprs, nodes)
+    // What is zero throughout needs no loop to fill the table.
+    let mut table = [Token::Sign(Sign::Mu, 0); LONGEST_TEXT];
+    let count = text.tokens(&mut table)?;
+    parse(&table[..count], text.len(), names, exprs, nodes)
 }
 
 // Makes every entry of both tables false.

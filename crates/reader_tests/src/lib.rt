@@ -4,7 +4,8 @@
 #[cfg(test)]
 mod tests {
     use formulas::{Expr, Node};
-    use reader::{Refusal, read};
+    use reader::{Refusal, Vocabulary, read, read_with};
+    use words::lookup;
 
     // An answer as its number and its value.
     fn told(answer: Result<usize, Refusal>) -> (u8, usize) {
@@ -146,6 +147,28 @@ mod tests {
         deep[73] = b'>';
         deep[74] = b'X';
         assert!(rt; answers(&deep[0..75], 25, 0));
+    }
+
+    // Names in lists that keep their form, and in others.
+    #[test]
+    fn names(rt: HostRuntime) {
+        assert!(rt;
+            lookup(b"fill\ncut\n", 2, b"cut") == Some(1)
+                && lookup(b"fill\ncut\n", 2, b"test").is_none()
+                && lookup(b"fill\ncut\n", 1, b"fill").is_none()
+                && lookup(b"fill\ncut", 2, b"fill").is_none()
+        );
+        assert!(rt; Vocabulary::new(b"fill\n", b"hand\nhand\n").is_none());
+    }
+
+    // Two texts read with names that are checked once.
+    #[test]
+    fn names_checked_before(rt: HostRuntime) {
+        let mut exprs = [Expr::True; 64];
+        let mut nodes = [Node::True; 64];
+        let names = Vocabulary::new(b"fill\n", b"hand\n").expect(&rt, "both lists keep their form");
+        assert!(rt; told(read_with(b"<fill|hand>X", names, &mut exprs, &mut nodes)) == (0, 2));
+        assert!(rt; told(read_with(b"<cut|hand>X", names, &mut exprs, &mut nodes)) == (24, 1));
     }
 
     // The entries: parts before wholes, left before right, false beyond; and all false after a refusal.

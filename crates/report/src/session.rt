@@ -7,7 +7,7 @@ use crate::digits::Digits;
 use crate::verdict::Refused;
 use book::books::{ClosedBook, OpenBook};
 use families::{ACCEPTED, MAX_STATES};
-use formulas::judge::MAX_ENTRIES;
+use formulas::judge::{MAX_ENTRIES, judge};
 use formulas::{Expr, Node};
 use product_sets::{Kind, Mask};
 use reader::{MAX_ACTIONS, MAX_FEATURES, Vocabulary, read_with};
@@ -102,9 +102,22 @@ impl Session {
         let mut exprs = [Expr::False; MAX_ENTRIES];
         let mut nodes = [Node::False; MAX_ENTRIES];
         let count = read_with(text, self.names(), &mut exprs, &mut nodes)?;
+        let nodes = &nodes[..count];
+        // The check would refuse unsound tables by the same number, but needs cells to be called.
+        if let Err(unsound) = judge(&exprs, nodes) {
+            let (number, value) = unsound.into();
+            return Err(Refused { number, value });
+        }
+        self.checked_by_mask(&exprs, nodes)
+    }
+
+    // Checks tables with the mask. The cells are made here, since what is refused before needs none.
+    fn checked_by_mask(&self, exprs: &[Expr], nodes: &[Node]) -> Result<Digits, Refused>
+        ensures { Checked (family_of self.now) exprs.now nodes.now (formula_at exprs.now nodes.now (last nodes.now)) (outcome_of result) }
+    {
         let mut kind = Mask;
         let mut cells = [kind.none(); CELLS];
-        self.checked(&exprs, &nodes[0..count], &mut kind, &mut cells)
+        self.checked(exprs, nodes, &mut kind, &mut cells)
     }
 
     // Checks tables with a kind of 64 places, in cells that suffice for all tables.

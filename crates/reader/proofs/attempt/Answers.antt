@@ -1,6 +1,7 @@
-use Rattle.std.proofs.Common.{◌≡◌, ℕ, ◌≤◌, List, length, Some, None, Option, sym, refl, ap, ◌∙◌, subst}
+use Rattle.std.proofs.Common.{◌≡◌, ℕ, ◌≤◌, List, length, take, Some, None, Option, sym, refl, ap, ◌∙◌, subst, arith}
+use Rattle.std.proofs.lemmas.List.{length-take-le}
 use Rattle.std.proofs.lemmas.Result.{err_from_is_err_and}
-use Rattle.lexer.specs.Texts.{toks, listed, TokensOf, NoTokenAt}
+use Rattle.lexer.specs.Texts.{toks, TokensOf, NoTokenAt}
 use Rattle.words.specs.Words.{Lines}
 use Rattle.words.proofs.Cut.{lines}
 use Rattle.reader.specs.Outcome.{Fit, long_text, no_words, no_token, Ready, Parsed}
@@ -24,11 +25,17 @@ returns-in_default-names c = λ actions features k. no_words c.in-Some.ensures.0
 fit : (text actions features : List ℕ) → length text ≤ 1024 → (w : Worded actions features) → Fit text actions features w.0.0 w.1.0
 fit text actions features le w = record { short = le; action_list = w.0.1; feature_list = w.1.1 }
 
-pub returns-in_err-tokens : goal.returns-in_err-tokens
-returns-in_err-tokens c = λ actions features k.
+pub returns-in_err-count : goal.returns-in_err-count
+returns-in_err-count c = λ actions features k.
     let p = err_from_is_err_and c.from_residual.result c.from_residual.ensures.1 in
     let w = (subst (Knows actions features) c.in-Some-names.is k).0 in
-    rw (p.1, p.2) (no_token w.0.0 w.1.0 _ (fit c.args.text.now actions features c.in-Some.ensures.0 w) (subst (λ bs. NoTokenAt bs 0 c.in_err-tokens.field-0.0.0) c.in-Some.ensures.1 c.in_err-tokens.ensures))
+    rw (p.1, p.2) (no_token w.0.0 w.1.0 _ (fit c.args.text.now actions features c.in-Some.ensures.0 w) (subst (λ bs. NoTokenAt bs 0 c.in_err-count.field-0.0.0) c.in-Some.ensures.1 c.in_err-count.ensures.tokens))
+
+pub slice_bounds-table-end : goal.slice_bounds-table-end
+slice_bounds-table-end c = omega (arith, c.in_ok-count.ensures.tokens.0, c.tokens.ensures.length)
+
+pub slice_bounds-parse-end : goal.slice_bounds-parse-end
+slice_bounds-parse-end c = sym (length-take-le c.in_ok-count.count c.tokens.new.table (omega (arith, c.in_ok-count.ensures.tokens.0, c.tokens.ensures.length)))
 
 pub returns : goal.returns
 returns c = λ actions features k.
@@ -38,8 +45,8 @@ returns c = λ actions features k.
     let g = fit text actions features c.in-Some.ensures.0 w in
     let n = length c.args.exprs.now in
     let m = length c.args.nodes.now in
-    let ts = toks c.as_slice.result.now in
-    let lexed : TokensOf text 0 ts = subst (TokensOf text 0) (sym c.as_slice.ensures.tokens) (subst (λ bs. TokensOf bs 0 (listed c.in_ok-tokens.tokens)) c.in-Some.ensures.1 c.in_ok-tokens.ensures) in
+    let ts = toks (take c.in_ok-count.count c.tokens.new.table) in
+    let lexed : TokensOf text 0 ts = subst (λ bs. TokensOf bs 0 ts) c.in-Some.ensures.1 c.in_ok-count.ensures.tokens.1 in
     let x = source text actions features n m w.0.0 w.1.0 g in
     let ready : Ready x c.in-Some-names.names c.args.exprs.now c.args.nodes.now = record {
       actions = subst (λ b. Lines b w.0.0) (sym v.1) (lines w.0.1);

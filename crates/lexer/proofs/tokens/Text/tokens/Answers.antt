@@ -1,26 +1,32 @@
-use Rattle.std.proofs.Common.{◌≡◌, ℕ, List, [], ◌∷◌, ◌++◌, length, Some, None, Ok, Option, IfSome, sym, ap, ◌∙◌, subst, append_assoc, append-nil, refl, arith}
+use Rattle.std.proofs.Common.{◌≡◌, ℕ, List, [], ◌∷◌, ◌++◌, length, Some, None, Ok, Option, IfSome, sym, ap, ◌∙◌, subst, take, append_assoc, append-nil, refl, arith}
+use Rattle.std.proofs.lemmas.List.{length-set, take_more_set, map-append}
 use Rattle.std.proofs.lemmas.Result.{err_from_is_err_and}
 use Rattle.lexer.specs.Cuts.{tok_of, seen, end, Lawful, Onward}
-use Rattle.lexer.specs.Texts.{TokensOf, no_more, one_more, NoTokenAt, here, later, listed}
+use Rattle.lexer.specs.Texts.{TokensOf, no_more, one_more, NoTokenAt, here, later, toks}
 use Rattle.lexer.specs.declared.Found.{Found}
 use Rattle.lexer.proofs.tokens.Text.tokens.Goals as goal
 
-pub returns-in_err-found : goal.returns-in_err-found
-returns-in_err-found c =
+pub returns-in_err-found-clause-tokens : goal.returns-in_err-found-clause-tokens
+returns-in_err-found-clause-tokens c =
     let p = err_from_is_err_and c.from_residual.result c.from_residual.ensures.1 in
     let l = c.in_err-found.ensures.longest in
-    rw (p.1, p.2) (c.loop-found.invariant.2 _ (here _ _ l.0 l.1 l.2 l.3))
+    rw (p.1, p.2) (c.loop-found.invariant.3 _ (here _ _ l.0 l.1 l.2 l.3))
 
 pub loop-found-preserved : goal.loop-found-preserved
 loop-found-preserved c =
     let bs = c.args.self.bytes.now in
     let t = c.in-Some.found.token in
+    let n = c.loop-found.count in
+    let xs = c.loop-found.table in
     let l = subst (λ o. Lawful bs c.loop-found.at (seen (Ok o))) c.in-Some.is c.in_ok-found.ensures.longest in
-    let on = subst (λ o. IfSome o (Onward c.loop-found.at (length bs))) c.in-Some.is c.in_ok-found.ensures.onward in (
-      omega (arith, c.push.ensures.count, c.loop-found.invariant.0, on.0),
+    let on = subst (λ o. IfSome o (Onward c.loop-found.at (length bs))) c.in-Some.is c.in_ok-found.ensures.onward in
+    let more = ap toks (take_more_set xs n t (omega (arith, c.loop-found.invariant))) ∙ map-append tok_of (take n xs) (t ∷ []) in
+    (
+      length-set xs n t ∙ c.loop-found.invariant.0,
+      omega (arith, c.loop-found.invariant.1, on.0),
       on.1,
-      λ p h. c.loop-found.invariant.2 p (later _ _ _ _ l.0 l.1 (subst (λ k. NoTokenAt bs k p) l.2 h)),
-      λ ts h. subst (λ x. TokensOf bs 0 x) (sym (ap (λ x. x ++ ts) c.push.ensures.tokens ∙ append_assoc (listed c.loop-found.tokens) (tok_of t ∷ []) ts)) (c.loop-found.invariant.3 _ (one_more _ _ _ l.0 l.1 (subst (λ k. TokensOf bs k ts) l.2 h))),
+      λ p h. c.loop-found.invariant.3 p (later _ _ _ _ l.0 l.1 (subst (λ k. NoTokenAt bs k p) l.2 h)),
+      λ ts h. subst (λ x. TokensOf bs 0 x) (sym (ap (λ x. x ++ ts) more ∙ append_assoc (toks (take n xs)) (tok_of t ∷ []) ts)) (c.loop-found.invariant.4 _ (one_more _ _ _ l.0 l.1 (subst (λ k. TokensOf bs k ts) l.2 h))),
     )
 
 -- no token comes next
@@ -28,8 +34,8 @@ ended : (bs : List ℕ) (i : ℕ) (next : Option Found) → ((f : Found) → nex
 ended bs i (Some f) none l = absurd (none f refl)
 ended bs i None none l = l
 
-pub returns : goal.returns
-returns c =
+pub returns-clause-tokens : goal.returns-clause-tokens
+returns-clause-tokens c =
     let bs = c.args.self.bytes.now in
-    let sp = ended bs c.loop-found.at c.in_ok-found.field-0 c.in_default.not-Some c.in_ok-found.ensures.longest c.loop-found.invariant.1 in
-    subst (λ x. TokensOf bs 0 x) (append-nil (listed c.loop-found.tokens)) (c.loop-found.invariant.3 [] (no_more _ sp))
+    let sp = ended bs c.loop-found.at c.in_ok-found.field-0 c.in_default.not-Some c.in_ok-found.ensures.longest c.loop-found.invariant.2 in
+    (omega (arith, c.loop-found.invariant, c.args.self.short), subst (λ x. TokensOf bs 0 x) (append-nil (toks (take c.loop-found.count c.loop-found.table))) (c.loop-found.invariant.4 [] (no_more _ sp)))

@@ -1,11 +1,13 @@
-use Rattle.std.proofs.Common.{◌≡◌, ◌≤◌, refl, arith, rules}
+use Rattle.std.proofs.Common.{◌≡◌, ◌≤◌, refl, subst, take, arith, rules}
 use Rattle.std.proofs.lemmas.Result.{err_from_is_err_and}
 use Rattle.reader.specs.Refusals.{refusal_number}
 use Rattle.reader.specs.declared.refusals.Refusal.{Refusal}
 use Rattle.reader.specs.declared.refusals.Refusal.TheVariants as rf
-use Rattle.report.specs.Answers.{unread}
+use Rattle.formulas.specs.Judge.{Judged, answer_of}
+use Rattle.report.specs.Answers.{unread, refused}
 use Rattle.report.specs.Sessions.{family_of, actions_of, features_of}
 use Rattle.report.specs.Verdicts.{outcome_of}
+use Rattle.report.proofs.Judging.{refused_tables}
 use Rattle.report.proofs.Texts.{tried_of, few_read, answer_read}
 use Rattle.report.proofs.session.Session.verdict.Goals as goal
 
@@ -23,11 +25,20 @@ returns-in_err-count c =
     let p = err_from_is_err_and c.from_residual.result c.from_residual.ensures.1 in
     rw (p.1, p.2.0, p.2.1) (unread (tried_of c.names.ensures.actions c.names.ensures.features refl refl c.in_err-count.ensures) (not_zero _))
 
-pub slice_bounds-checked-end-2 : goal.slice_bounds-checked-end-2
-slice_bounds-checked-end-2 c =
+pub slice_bounds-nodes-end-2 : goal.slice_bounds-nodes-end-2
+slice_bounds-nodes-end-2 c =
     let few : c.in_ok-count.count ≤ 64 = few_read refl (tried_of c.names.ensures.actions c.names.ensures.features refl refl c.in_ok-count.ensures) in search rules
+
+pub returns-in-Err : goal.returns-in-Err
+returns-in-Err c =
+    let F = family_of c.args.self.now in
+    let es = c.read_with.new.exprs in
+    let part = take c.in_ok-count.count c.read_with.new.nodes in
+    answer_read F c.args.text.now (actions_of c.args.self.now) (features_of c.args.self.now) refl
+    (tried_of c.names.ensures.actions c.names.ensures.features refl refl c.in_ok-count.ensures) part refl (refused c.into-number.result.0 c.into-number.result.1)
+    (refused_tables F es part _ c.in-Err.unsound c.into-number.result c.into-number.ensures (subst (λ r. Judged es part (answer_of r).0 (answer_of r).1) c.in-Err.is c.judge.ensures.judged))
 
 pub returns : goal.returns
 returns c =
     answer_read (family_of c.args.self.now) c.args.text.now (actions_of c.args.self.now) (features_of c.args.self.now) refl
-    (tried_of c.names.ensures.actions c.names.ensures.features refl refl c.in_ok-count.ensures) _ (search rules) (outcome_of c.checked.result) c.checked.ensures
+    (tried_of c.names.ensures.actions c.names.ensures.features refl refl c.in_ok-count.ensures) _ (search rules) (outcome_of c.checked_by_mask.result) c.checked_by_mask.ensures
