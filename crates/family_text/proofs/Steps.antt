@@ -1,5 +1,5 @@
 -- One step of reading.
-use Rattle.std.proofs.Common.{◌≡◌, ℕ, suc, ◌+◌, ◌<◌, Bool, true, false, not, cond, List, [], ◌∷◌, length, get_or, take, drop, Ok, Err, Result, bit_or, Bor, refl, sym, ap, ◌∙◌, subst, add-one, arith, codes}
+use Rattle.std.proofs.Common.{◌≡◌, ℕ, zero, suc, ◌+◌, ◌<◌, Bool, true, false, not, cond, List, [], ◌∷◌, ◌++◌, length, get_or, take, drop, Ok, Err, Result, bit_or, Bor, refl, sym, ap, ◌∙◌, subst, add-one, arith, codes}
 use Rattle.std.proofs.Math.Seq.{drop-cons}
 use Rattle.std.specs.List.{prefix_len, drop-map, take-map}
 use Rattle.std.specs.Str.{bytes_eq}
@@ -19,6 +19,16 @@ pub next_word : (ws : List (Bor (List ℕ))) (i : ℕ) (d : Bor (List ℕ)) → 
 next_word ws i d lt =
     sym (texts_drop i ws) ∙ ap texts (drop-cons ws i d lt)
     ∙ ap (λ us. (get_or ws i d).now ∷ us) (ap (λ n. texts (drop n ws)) (sym (add-one i)) ∙ texts_drop (i + 1) ws)
+
+pub texts_more : (ws : List (Bor (List ℕ))) (i : ℕ) (d : Bor (List ℕ)) → i < length ws → take (i + 1) (texts ws) ≡ take i (texts ws) ++ (get_or ws i d).now ∷ []
+texts_more [] i d lt = absurd (omega arith)
+texts_more (w ∷ ws) zero d lt = refl
+texts_more (w ∷ ws) (suc i) d lt = ap (λ n. take n (texts (w ∷ ws))) (add-one (suc i)) ∙ ap (λ us. w.now ∷ us) (ap (λ n. take n (texts ws)) (sym (add-one i)) ∙ texts_more ws i d (omega arith))
+
+pub length_before : (ws : List (Bor (List ℕ))) (i : ℕ) → i < length ws → length (take i (texts ws)) ≡ i
+length_before [] i lt = absurd (omega arith)
+length_before (w ∷ ws) zero lt = refl
+length_before (w ∷ ws) (suc i) lt = ap suc (length_before ws i (omega arith))
 
 pub prefix_now : (p : Word → Bool) (ws : List (Bor (List ℕ))) → prefix_len (λ (w : Bor (List ℕ)). p w.now) ws ≡ prefix_len p (texts ws)
 prefix_now p [] = refl

@@ -1,6 +1,7 @@
 -- The grammar of a family's text: what a line may say, and what it says.
 use Rattle.std.specs.Prelude.{◌≡◌, ◌≢◌, ℕ, ◌+◌, ◌^◌, ◌<◌, ◌⊎◌, List, [], ◌∷◌, ◌++◌, length, codes, drop}
-use Rattle.std.specs.Prelude.{Some, None, IsSome, bit_or}
+use Rattle.std.specs.Prelude.{Option, Some, None, IsSome, bit_or, map, fold}
+use Rattle.std.specs.List.{flat_map}
 use Rattle.std.specs.Fmt.{decimal}
 use Rattle.book.specs.declared.records.Record.{Record}
 use Rattle.book.specs.declared.records.Record.TheVariants.{AddProduct, AddTransition}
@@ -9,6 +10,7 @@ use Rattle.words.specs.Cut.{cut}
 use Rattle.family_text.specs.declared.vocabulary.Vocabulary.{Vocabulary}
 use Rattle.family_text.specs.declared.vocabulary.ListError.{ListError}
 use Rattle.family_text.specs.declared.vocabulary.ListError.TheVariants.{Actions, Features, Reserved}
+use Rattle.family_text.specs.Records.{record_bytes}
 use Rattle.family_text.specs.Words.{Word, words_of, lines_of}
 
 -- The names of actions and of features; name k of a list is that of number k.
@@ -27,12 +29,14 @@ IsRefused actions features Reserved =
 abbrev pub vocabulary : Vocabulary → Lists
 vocabulary v = record { actions = cut v.actions.list.now; features = cut v.features.list.now }
 
--- Words name the features of a set: each is a feature's name, and bit k of the set is that of feature k.
+-- The set of features as a number: bit k is that of feature k.
+abbrev pub union : ℕ → List ℕ → ℕ
+union set features = fold (λ s k. bit_or s (2 ^ k)) set features
+
+-- Words name the features of a set.
 abbrev pub NameSet : Lists → List Word → ℕ → Type 0
-NameSet names [] set = set ≡ 0
-NameSet names (w ∷ ws) set =
-    (feature : ℕ) × (rest : ℕ) × (number names.features w ≡ Some feature) × NameSet names ws rest
-    × (set ≡ bit_or (2 ^ feature) rest)
+NameSet names ws set =
+    (features : List ℕ) × (map (number names.features) ws ≡ map Some features) × (set ≡ union 0 features)
 
 -- A part of a condition is nothing at all, or its key word and the names of one feature or more.
 abbrev pub IsPart : Lists → Word → List Word → ℕ → Type 0
@@ -60,6 +64,10 @@ Spells names ws (AddTransition t) =
     × IsState source t.source × (number names.actions action ≡ Some t.action) × IsState target t.target
     × IsCondition names condition t.required t.excluded
 
+abbrev pub said_by : Option Record → List Record
+said_by None = []
+said_by (Some r) = r ∷ []
+
 -- A line says a record, or nothing if it has no words.
 abbrev pub Says : Lists → List ℕ → List Record → Type 0
 Says names line records =
@@ -75,3 +83,7 @@ Tell names (line ∷ lines) records =
 -- A text says these records.
 abbrev pub Describes : Lists → List ℕ → List Record → Type 0
 Describes names text records = Tell names (lines_of text) records
+
+-- What a text gives: eight bytes for each record that it says.
+abbrev pub encoding : List Record → List ℕ
+encoding records = flat_map record_bytes records

@@ -1,4 +1,5 @@
 pub mod Words
+pub mod Records
 pub mod Grammar
 pub mod Reading
-pub mod Records
+pub mod Faults
