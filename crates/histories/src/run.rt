@@ -10,9 +10,9 @@ use book::books::OpenBook;
 use product_sets::Kind;
 use std::alloc::{AllocError, Global};
 
-/// Opens a book and makes the calls of a history on it, its checks with this kind and in these cells, of which
-/// a check wants entries × states. Where memory ends the run does too, with the kind and the cells as the calls
-/// up to there leave them.
+/// Opens a book and makes the calls of a history on it, its checks with this kind and in these cells, of
+/// which a check wants entries × states. Where memory ends the run does too, with the kind and the cells as
+/// the calls up to there leave them.
 pub fn run<'c, 'b, K: Kind>(
     alloc: Global,
     history: History<'c, 'b>,

@@ -1,4 +1,5 @@
-//! Whole histories on the four-product family: what every call is told, what every check finds, and whose columns are equal.
+//! Whole histories on the four-product family: what every call is told, what every check finds, and whose
+//! columns are equal.
 #![tactic(auto)]
 
 #[cfg(test)]
@@ -14,13 +15,17 @@ mod tests {
     use std::process::Abort;
     use std::test::Fail;
 
-    // Products with auto, with hand, with both and with neither; fill, rennet with auto, rennet with hand, test, cut.
+    // Products with auto, with hand, with both and with neither; fill, rennet with auto, rennet with hand,
+    // test, cut and cut.
     const FAMILY: &[u8] = b"P\x01\0\0\0\0\0\0P\x02\0\0\0\0\0\0P\x03\0\0\0\0\0\0P\0\0\0\0\0\0\0\
-        T\0\0\x01\0\0\0\0T\x01\x01\x02\x01\0\0\0T\x01\x01\x02\x02\0\0\0T\x02\x02\x03\x01\0\0\0T\x02\x03\0\x02\0\0\0T\x03\x03\0\0\0\0\0";
+        T\0\0\x01\0\0\0\0T\x01\x01\x02\x01\0\0\0T\x01\x01\x02\x02\0\0\0\
+        T\x02\x02\x03\x01\0\0\0T\x02\x03\0\x02\0\0\0T\x03\x03\0\0\0\0\0";
 
-    // The same with the two rennets turned round, and with the products in another order: both, hand, neither, auto.
+    // The same with the two rennets turned round, and the products in another order: both, hand, neither and
+    // auto.
     const TURNED: &[u8] = b"P\x03\0\0\0\0\0\0P\x02\0\0\0\0\0\0P\0\0\0\0\0\0\0P\x01\0\0\0\0\0\0\
-        T\0\0\x01\0\0\0\0T\x01\x01\x02\x02\0\0\0T\x01\x01\x02\x01\0\0\0T\x02\x02\x03\x01\0\0\0T\x02\x03\0\x02\0\0\0T\x03\x03\0\0\0\0\0";
+        T\0\0\x01\0\0\0\0T\x01\x01\x02\x02\0\0\0T\x01\x01\x02\x01\0\0\0\
+        T\x02\x02\x03\x01\0\0\0T\x02\x03\0\x02\0\0\0T\x03\x03\0\0\0\0\0";
 
     const EXPRS: &[Expr] = &[Expr::True];
 
@@ -278,14 +283,30 @@ mod tests {
         Ok(())
     }
 
+    // Two columns, each by its log, its position there and its product.
+    fn equal(
+        log: &Log<'_, '_>,
+        (position, product): (usize, usize),
+        other: &Log<'_, '_>,
+        (later, twin): (usize, usize),
+    ) -> Option<bool> {
+        let one = Column {
+            log,
+            position,
+            product,
+        };
+        let two = Column {
+            log: other,
+            position: later,
+            product: twin,
+        };
+        one.equals(&two)
+    }
+
     #[test]
-    fn columns_are_the_products_own(rt: HostRuntime) -> Result<(), Fail> {
-        let edited = run_with(rt.alloc(), 4, &EDITED, &mut Mask)?;
-        let calls = [Call::Load(TURNED), Call::Close, CHECK];
-        let turned = run_with(rt.alloc(), 4, &calls, &mut Range)?;
-        let larger = run_with(rt.alloc(), 3, &calls[1..], &mut Mask)?;
-        // Of one book: a position and a product, twice.
-        let in_one = [
+    fn columns_of_one_run(rt: HostRuntime) -> Result<(), Fail> {
+        let log = run_with(rt.alloc(), 4, &EDITED, &mut Mask)?;
+        for (one, two, expected) in [
             ((12, 0), (17, 0), Some(true)),
             ((12, 1), (17, 1), Some(false)),
             ((12, 2), (17, 2), Some(true)),
@@ -297,40 +318,57 @@ mod tests {
             ((12, 0), (13, 0), None),
             ((0, 0), (12, 0), None),
             ((12, 0), (23, 0), None),
+        ] {
+            assert_eq!(rt; equal(&log, one, &log, two), expected);
+        }
+        Ok(())
+    }
+
+    #[test]
+    fn columns_of_two_runs(rt: HostRuntime) -> Result<(), Fail> {
+        let log = run_with(rt.alloc(), 4, &EDITED, &mut Mask)?;
+        let calls = [Call::Load(TURNED), Call::Close, CHECK];
+        let turned = run_with(rt.alloc(), 4, &calls, &mut Range)?;
+        for (product, twin) in [(0, 3), (1, 1), (2, 0), (3, 2)] {
+            assert_eq!(rt; equal(&log, (12, product), &turned, (2, twin)), Some(true));
+        }
+        // Fewer states, or fewer entries.
+        for (states, check) in [(3, CHECK), (4, Call::Check(EXPRS, &[Node::True]))] {
+            let calls = [Call::AddProduct(1), Call::Close, check];
+            let smaller = run_with(rt.alloc(), states, &calls, &mut Mask)?;
+            assert_eq!(rt; equal(&log, (12, 0), &smaller, (2, 0)), None);
+        }
+        Ok(())
+    }
+
+    // `tools/want_of_memory` runs this with each allocation failing in turn: a run ends with the error or
+    // answers its log, and the next one finds the kind and the cells fit for use.
+    #[test]
+    fn want_of_memory(rt: HostRuntime) -> Result<(), Fail> {
+        let calls = [
+            Call::AddProduct(2),
+            Call::Load(&FAMILY[32..80]),
+            Call::Close,
+            CHECK,
         ];
-        for ((position, product), (later, other), expected) in in_one {
-            let one = Column {
-                log: &edited,
-                position,
-                product,
-            };
-            let two = Column {
-                log: &edited,
-                position: later,
-                product: other,
-            };
-            assert_eq!(rt; one.equals(&two), expected);
-        }
-        // Of two books, in which the products have other numbers.
-        for (product, other) in [(0, 3), (1, 1), (2, 0), (3, 2)] {
-            let one = Column {
-                log: &edited,
-                position: 12,
-                product,
-            };
-            let two = Column {
-                log: &turned,
-                position: 2,
-                product: other,
-            };
-            let three = Column {
-                log: &larger,
-                position: 1,
-                product: other,
-            };
-            assert_eq!(rt; one.equals(&two), Some(true));
-            assert_eq!(rt; one.equals(&three), None);
-        }
+        let expected = [
+            Told::Answer(0, 0),
+            Told::Answer(0, 6),
+            Told::Done,
+            Told::Checked(1),
+        ];
+        let mut kind = Range;
+        let mut cells = [kind.none(); 12];
+        let history = History {
+            states: 4,
+            calls: &calls,
+        };
+        let log = match run(rt.alloc(), history, &mut kind, &mut cells) {
+            Ok(log) => log,
+            Err(AllocError) => run(rt.alloc(), history, &mut kind, &mut cells)?,
+        };
+        assert_told(&rt, &log, &expected);
+        assert_digits(&rt, &log, 3, b"1");
         Ok(())
     }
 }

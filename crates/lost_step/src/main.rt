@@ -1,6 +1,8 @@
-// The maker's question, from beginning to end: do the answers on a family depend on the order of its transitions?
-// The four-product family is checked twice against the rule that no cut follows the rennet directly, once with its
-// transitions as given and once sorted, with two kinds of product set; then without its third transition.
+//! The maker's question, from beginning to end: do the answers on a family depend on the order of its
+//! transitions?
+//! The four-product family is run three times and checked against the rule that no cut follows the rennet
+//! directly: with its transitions as given, with its transitions sorted, and without the third one. The runs
+//! have two kinds of product set, and the columns of each product are compared.
 #![tactic(auto)]
 
 use families::Transition;
@@ -79,7 +81,7 @@ fn rule() -> [Node; ENTRIES] {
     ]
 }
 
-// What the check of a run was answered, and the row of the whole formula: a digit for each product, 1 where the
+// What the check of a run was told, and the row of the whole formula: a digit for each product, 1 where the
 // formula holds in the state.
 fn print_check(rt: &HostRuntime, log: &Log<'_, '_>) -> anyhow::Result<()> {
     let table = match log.replies.get(CHECK) {
