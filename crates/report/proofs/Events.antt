@@ -48,9 +48,12 @@ happen_none (Some x) = sym (append-nil x)
 
 happen_then : (a b c : Option (List Event)) (xs ys : List Event) → Happen a b xs → Happen b c ys
     → Happen a c (xs ++ ys)
-happen_then None b c xs ys p q = tt
-happen_then (Some x) None c xs ys p q = absurd p
-happen_then (Some x) (Some y) None xs ys p q = absurd q
+happen_then None None None xs ys p q = tt
+happen_then None None (Some z) xs ys p q = absurd q
+happen_then None (Some y) c xs ys p q = absurd p
+happen_then (Some x) None None xs ys p q = tt
+happen_then (Some x) None (Some z) xs ys p q = absurd q
+happen_then (Some x) (Some y) None xs ys p q = tt
 happen_then (Some x) (Some y) (Some z) xs ys p q = q ∙ ap (λ l. l ++ ys) p ∙ append_assoc x xs ys
 
 pub passes_none : (k : Known) → Passes k k []

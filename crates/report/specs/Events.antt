@@ -51,10 +51,11 @@ pub record Known : Type 0 where
   pub written : Option (List ℕ)
   pub events : Option (List Event)
 
--- Known events grow by these.
+-- Known events grow by these, or are forgotten for good.
 abbrev pub Happen : Option (List Event) → Option (List Event) → List Event → Type 0
-Happen None new es = ⊤
-Happen (Some xs) None es = ⊥
+Happen None None es = ⊤
+Happen None (Some ys) es = ⊥
+Happen (Some xs) None es = ⊤
 Happen (Some xs) (Some ys) es = ys ≡ xs ++ es
 
 -- These events, and no others, lead from what was known before to what is known after them.

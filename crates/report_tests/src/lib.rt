@@ -103,9 +103,39 @@ fn answered(lines: usize) -> usize {
     bytes
 }
 
+fn ends_in(bytes: &[u8]) -> usize {
+    bytes.iter().filter(|byte| **byte == b'\n').count()
+}
+
 #[cfg(test)]
 mod tests {
+    use super::recorder::{Moment, Recorder};
     use super::*;
+
+    // Each read finds as many lines answered as have ended.
+    #[test]
+    fn order_of_moments(rt: HostRuntime) -> io::Result<()> {
+        let mut console = Recorder {
+            alloc: rt.alloc(),
+            rest: INPUT,
+            most: 3,
+            moments: Some(Vec::new(rt.alloc())),
+        };
+        assert!(rt; serve(rt.alloc(), session(rt.alloc())?, &mut console).is_ok());
+        let Recorder { moments, .. } = console;
+        let (mut ended, mut answered) = (0usize, 0usize);
+        for moment in &moments.unwrap_or(Vec::new(rt.alloc())) {
+            match moment {
+                Moment::Read(bytes) => {
+                    assert!(rt; answered == ended);
+                    ended = ended.saturating_add(ends_in(bytes));
+                }
+                Moment::Wrote(bytes) => answered = answered.saturating_add(ends_in(bytes)),
+            }
+        }
+        assert!(rt; answered == 3 && ended == 2);
+        Ok(())
+    }
 
     // In pieces of any length the answers are the same.
     #[test]

@@ -26,10 +26,7 @@ pub struct Recorder<'a> {
 }
 
 // One moment more, or none at all.
-fn kept(
-    moments: Option<Vec<Moment>>,
-    moment: Result<Moment, AllocError>,
-) -> Option<Vec<Moment>>
+fn kept(moments: Option<Vec<Moment>>, moment: Result<Moment, AllocError>) -> Option<Vec<Moment>>
     ensures more { IfOk moment (λ m. Happen (option_map (λ v. events_of (vec_items v)) moments)
         (option_map (λ v. events_of (vec_items v)) result) (event_of m ∷ [])) }
     ensures forgotten { IsErr moment → result ≡ none }
@@ -48,9 +45,9 @@ fn kept(
 
 impl Console for Recorder<'_> {
     ghost known = { λ r. record {
-        unread = none;
-        written = none;
-        events = option_map (λ v. events_of (vec_items v)) r.moments;
+      unread = none;
+      written = none;
+      events = option_map (λ v. events_of (vec_items v)) r.moments;
     } };
 
     fn read(&mut self, buffer: &mut [u8]) -> io::Result<usize> {
