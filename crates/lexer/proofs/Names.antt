@@ -46,10 +46,7 @@ name_no_word w v e = go (worded w) e
   where
     go : {s : Sym} → Worded w s → name v ≡ s → NoWord w
     go (is_name h) e = h
-    go (is_mu h) e = let z : ◌≡◌ {A = ℕ} 0 1 = cc in absurd (omega arith)
-    go (is_nu h) e = let z : ◌≡◌ {A = ℕ} 0 1 = cc in absurd (omega arith)
-    go (is_true h) e = let z : ◌≡◌ {A = ℕ} 0 1 = cc in absurd (omega arith)
-    go (is_false h) e = let z : ◌≡◌ {A = ℕ} 0 1 = cc in absurd (omega arith)
+    go _ e = let z : ◌≡◌ {A = ℕ} 0 1 = cc in absurd (omega arith)
 
 pub no_word_name : (w : List ℕ) → NoWord w → word_of w ≡ name w
 no_word_name w h = go (worded w)

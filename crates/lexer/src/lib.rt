@@ -32,8 +32,8 @@ pub enum Sign {
     Dot,
 }
 
-/// A token with its place, which is that of its first byte in the text. A name is the part of the text that spells it; a
-/// variable (the makers' letter) is numbered 0 to 25 for A to Z.
+/// A token with its place, which is that of its first byte in the text. A name is the part of the text
+/// that spells it; a variable (the makers' letter) is numbered 0 to 25 for A to Z.
 #[derive(Clone, Copy)]
 pub enum Token<'t> {
     Sign(Sign, usize),
@@ -161,7 +161,8 @@ fn next_token(text: &[u8], from: usize) -> Result<Option<Found<'_>>, NoToken>
     }
 }
 
-/// Whether bytes are a name: 1 to 12 small letters and digits, a small letter first, and none of the four words.
+/// Whether bytes are a name: 1 to 12 small letters and digits, a small letter first, and none of the four
+/// words.
 pub fn is_name(bytes: &[u8]) -> bool
     ensures { IsTrue result ↔ Name bytes.now }
 {

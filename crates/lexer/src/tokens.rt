@@ -18,7 +18,8 @@ impl<'t> Text<'t> {
 
     /// The text, unless it is too long.
     pub fn new(bytes: &'t [u8]) -> Option<Text<'t>>
-        ensures { MatchOption result (1024 < length bytes.now) (λ text. (length bytes.now ≤ 1024) × (text.bytes.now ≡ bytes.now)) }
+        ensures { MatchOption result (1024 < length bytes.now)
+            (λ text. (length bytes.now ≤ 1024) × (text.bytes.now ≡ bytes.now)) }
     {
         if bytes.len() > LONGEST_TEXT {
             None
@@ -34,11 +35,14 @@ impl<'t> Text<'t> {
         self.bytes.len()
     }
 
-    /// Writes the tokens of the text, in order, from the start of a table, and answers their count; or answers the first
-    /// place where no token begins. A text has no more tokens than bytes, so the table has room for them.
+    /// Writes the tokens of the text, in order, from the start of a table, and answers their count; or
+    /// answers the first place where no token begins. A text has no more tokens than bytes, so the table
+    /// has room for them.
     pub fn tokens(self, table: &mut [Token<'t>; LONGEST_TEXT]) -> Result<usize, NoToken>
         ensures length { length table.new ≡ 1024 }
-        ensures tokens { MatchResult result (λ count. (count ≤ 1024) × TokensOf self.entry.bytes.now 0 (toks (take count table.new))) (λ bad. NoTokenAt self.entry.bytes.now 0 bad.0) }
+        ensures tokens { MatchResult result
+            (λ count. (count ≤ 1024) × TokensOf self.entry.bytes.now 0 (toks (take count table.new)))
+            (λ bad. NoTokenAt self.entry.bytes.now 0 bad.0) }
     {
         let mut count = 0;
         let mut at = 0;

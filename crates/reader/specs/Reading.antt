@@ -94,14 +94,16 @@ Enters l f a b n = (x : Source) (t : Tables) → State x a t → State x b (f x 
 
 -- A feature's name that stands at p is entered.
 abbrev pub feature_at : List ℕ → ℕ → Source → Tables → Tables
-feature_at w p x t = put_expr (ex.Feature (or_0 (number x.feature_names w))) (note (number x.feature_names w) p t)
+feature_at w p x t = put_expr (ex.Feature (or_0 (number x.feature_names w)))
+    (note (number x.feature_names w) p t)
 
 -- A name that stands at p is noted if it has no number.
 abbrev pub Notes : Option ℕ → ℕ → Reader → Reader → Type 0
 Notes o p a b = (x : Source) (t : Tables) → State x a t → State x b (note o p t)
 
 -- The tokens ts are a phrase of the kind R, which has the tree f, and then the rest, which is E.
-pub record PhraseIn (R : Ending → List Tok → Tree → Type 0) (E : List Tok → Type 0) (ts rest : List Tok) (f : Tree) : Type 0 where
+pub record PhraseIn (R : Ending → List Tok → Tree → Type 0) (E : List Tok → Type 0) (ts rest : List Tok)
+    (f : Tree) : Type 0 where
   pub how : Ending
   pub used : List Tok
   pub split : ts ≡ used ++ rest
@@ -110,7 +112,8 @@ pub record PhraseIn (R : Ending → List Tok → Tree → Type 0) (E : List Tok 
   pub exit : E rest
 
 -- The reader goes past such a phrase, whose tree it enters with the number n.
-pub record Did (l : Level) (R : Ending → List Tok → Tree → Type 0) (E : List Tok → Type 0) (a b : Reader) (n : ℕ) : Type 0 where
+pub record Did (l : Level) (R : Ending → List Tok → Tree → Type 0) (E : List Tok → Type 0) (a b : Reader)
+    (n : ℕ) : Type 0 where
   pub tree : Tree
   pub reads : PhraseIn R E (left a) (left b) tree
   pub enters : Enters l (λ x. entered x l tree) a b n
@@ -151,4 +154,5 @@ pub record Actions (a b : Reader) (k : ℕ) : Type 0 where
   pub action : List ℕ
   pub place : ℕ
   pub next : left a ≡ tok (name action) place ∷ left b
-  pub notes : (x : Source) (t : Tables) → State x a t → State x b (note (number x.action_names action) place t) × (k ≡ or_0 (number x.action_names action))
+  pub notes : (x : Source) (t : Tables) → State x a t → State x b
+      (note (number x.action_names action) place t) × (k ≡ or_0 (number x.action_names action))

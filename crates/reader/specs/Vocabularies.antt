@@ -10,4 +10,5 @@ Worded actions features = InForm 64 actions × InForm 16 features
 -- The names are those of two word lists that keep their form; where one breaks it, there are none.
 abbrev pub Knows : List ℕ → List ℕ → Option Vocabulary → Type 0
 Knows actions features names =
-    MatchOption names (Worded actions features → ⊥) (λ v. Worded actions features × (v.actions.list.now ≡ actions) × (v.features.list.now ≡ features))
+    MatchOption names (Worded actions features → ⊥)
+    (λ v. Worded actions features × (v.actions.list.now ≡ actions) × (v.features.list.now ≡ features))

@@ -4,7 +4,8 @@ ghost use Rattle.reader.specs.Shapes.{as_expr};
 
 use formulas::{Expr, Node};
 
-/// The entry of the expression table that is made as one of the formula table. What no expression has is false there.
+/// The entry of the expression table that is made as one of the formula table. What no expression has is
+/// false there.
 pub fn expr_of(node: Node) -> Expr
     ensures { result ≡ as_expr node }
 {

@@ -31,7 +31,8 @@ fn attempt(
     requires exprs { exprs.old ≡ replicate (length exprs.old) ex.False }
     requires nodes { nodes.old ≡ replicate (length nodes.old) nd.False }
     requires room { (64 ≤ length exprs.old) × (64 ≤ length nodes.old) }
-    ensures { (actions features : List ℕ) → Knows actions features names.entry → Attempted text.now actions features (length exprs.old) (length nodes.old) exprs.new nodes.new result }
+    ensures { (actions features : List ℕ) → Knows actions features names.entry → Attempted text.now actions
+        features (length exprs.old) (length nodes.old) exprs.new nodes.new result }
 {
     let Some(text) = Text::new(text) else {
         return Err(Refusal::LongText);
@@ -61,7 +62,8 @@ fn read_or_clear(
     exprs: &mut [Expr],
     nodes: &mut [Node],
 ) -> Result<usize, Refusal>
-    ensures { (actions features : List ℕ) → Knows actions features names.entry → Reading text.now actions features exprs.old nodes.old (answer_number result) (answer_value result) exprs.new nodes.new }
+    ensures { (actions features : List ℕ) → Knows actions features names.entry → Reading text.now actions
+        features exprs.old nodes.old (answer_number result) (answer_value result) exprs.new nodes.new }
 {
     if exprs.len() < MAX_ENTRIES || nodes.len() < MAX_ENTRIES {
         return Err(Refusal::ShortTable);
@@ -74,7 +76,8 @@ fn read_or_clear(
     answer
 }
 
-/// Reads a formula text into both tables, with the names of two word lists. The answer is the count of formula entries.
+/// Reads a formula text into both tables, with the names of two word lists. The answer is the count of
+/// formula entries.
 pub fn read(
     text: &[u8],
     actions: &[u8],
@@ -82,7 +85,8 @@ pub fn read(
     exprs: &mut [Expr],
     nodes: &mut [Node],
 ) -> Result<usize, Refusal>
-    ensures { Reading text.now actions.now features.now exprs.old nodes.old (answer_number result) (answer_value result) exprs.new nodes.new }
+    ensures { Reading text.now actions.now features.now exprs.old nodes.old (answer_number result)
+        (answer_value result) exprs.new nodes.new }
 {
     read_or_clear(text, Vocabulary::new(actions, features), exprs, nodes)
 }
@@ -94,7 +98,8 @@ pub fn read_with(
     exprs: &mut [Expr],
     nodes: &mut [Node],
 ) -> Result<usize, Refusal>
-    ensures { Reading text.now names.entry.actions.list.now names.entry.features.list.now exprs.old nodes.old (answer_number result) (answer_value result) exprs.new nodes.new }
+    ensures { Reading text.now names.entry.actions.list.now names.entry.features.list.now exprs.old
+        nodes.old (answer_number result) (answer_value result) exprs.new nodes.new }
 {
     read_or_clear(text, Some(names), exprs, nodes)
 }

@@ -29,7 +29,8 @@ pub fn parse(
     nodes: &mut [Node],
 ) -> Result<usize, Refusal>
     requires { length tokens.now ≤ 1024 }
-    ensures { (x : Source) → Ready x names.entry exprs.old nodes.old → Parsed x end (toks tokens.now) exprs.new nodes.new result }
+    ensures { (x : Source) → Ready x names.entry exprs.old nodes.old → Parsed x end (toks tokens.now)
+        exprs.new nodes.new result }
 {
     let mut exprs = Table {
         entries: exprs,
@@ -50,8 +51,9 @@ pub fn parse(
     reader.whole()
 }
 
-// A reader of the tokens that are left, of a text of the length `end`. `unknown` is the place of the first unknown name.
-// That it has entered no more than it has read (`Inside`) is no invariant: an entry is made after its token is read.
+// A reader of the tokens that are left, of a text of the length `end`. `unknown` is the place of the first
+// unknown name. That it has entered no more than it has read (`Inside`) is no invariant: an entry is made
+// after its token is read.
 #[derive(Drop)]
 struct Reader<'k, 't, 'w, 'x, 'e, 'y, 'n> {
     tokens: &'k [Token<'t>],
@@ -118,7 +120,9 @@ impl<'k, 't, 'w, 'x, 'e, 'y, 'n> Reader<'k, 't, 'w, 'x, 'e, 'y, 'n> {
         requires { Inside self.old }
         ensures keeps { Keeps self.old self.new }
         ensures grows { Grows self.old self.new }
-        ensures enters { MatchResult result (λ n. (level ≡ at_expression) × Enters at_expression (feature_at name.now place) self.old self.new n) (λ o. (level ≢ at_expression) × (o.0 ≡ place)) }
+        ensures enters { MatchResult result
+            (λ n. (level ≡ at_expression) × Enters at_expression (feature_at name.now place) self.old
+            self.new n) (λ o. (level ≢ at_expression) × (o.0 ≡ place)) }
     {
         only_at(Level::Expression, level, place)?;
         let found = self.names.features.number(name);
@@ -131,7 +135,8 @@ impl<'k, 't, 'w, 'x, 'e, 'y, 'n> Reader<'k, 't, 'w, 'x, 'e, 'y, 'n> {
         ensures onto { Onto self.old self.new }
         ensures fewer { IfOk result (λ t. length self.new.tokens.now + 1 ≡ length self.old.tokens.now) }
         ensures same_tables { (self.new.nodes ≡ self.old.nodes) × (self.new.exprs ≡ self.old.exprs) }
-        ensures takes { MatchResult result (λ t. Takes (sym_of t) (place_of t) self.old self.new) (λ o. (left self.old ≡ []) × (o.0 ≡ self.old.end)) }
+        ensures takes { MatchResult result (λ t. Takes (sym_of t) (place_of t) self.old self.new)
+            (λ o. (left self.old ≡ []) × (o.0 ≡ self.old.end)) }
     {
         let tokens = self.tokens;
         match tokens.first() {
@@ -146,7 +151,8 @@ impl<'k, 't, 'w, 'x, 'e, 'y, 'n> Reader<'k, 't, 'w, 'x, 'e, 'y, 'n> {
     // Goes past a sign that has to come next.
     fn expect(&mut self, wanted: Sign) -> Result<(), Offence>
         ensures onto { Onto self.old self.new }
-        ensures reads { (m : Inner) → wanted ≡ sign_of m → MatchResult result (λ _. Passes wanted self.old self.new) (λ o. Stuck (expected m ∷ []) self.old o.0) }
+        ensures reads { (m : Inner) → wanted ≡ sign_of m → MatchResult result
+            (λ _. Passes wanted self.old self.new) (λ o. Stuck (expected m ∷ []) self.old o.0) }
     {
         let token = self.take()?;
         if is_sign(token, wanted) {
@@ -176,7 +182,8 @@ impl<'k, 't, 'w, 'x, 'e, 'y, 'n> Reader<'k, 't, 'w, 'x, 'e, 'y, 'n> {
 
     fn variable(&mut self) -> Result<u8, Offence>
         ensures onto { Onto self.old self.new }
-        ensures reads { MatchResult result (Variables self.old self.new) (λ o. Stuck (a_variable ∷ []) self.old o.0) }
+        ensures reads { MatchResult result (Variables self.old self.new)
+            (λ o. Stuck (a_variable ∷ []) self.old o.0) }
     {
         let token = self.take()?;
         let Token::Variable(v, _place) = token else {
@@ -188,7 +195,8 @@ impl<'k, 't, 'w, 'x, 'e, 'y, 'n> Reader<'k, 't, 'w, 'x, 'e, 'y, 'n> {
     // The number of an action's name.
     fn action(&mut self) -> Result<u8, Offence>
         ensures onto { Onto self.old self.new }
-        ensures reads { MatchResult result (Actions self.old self.new) (λ o. Stuck (an_action ∷ []) self.old o.0) }
+        ensures reads { MatchResult result (Actions self.old self.new)
+            (λ o. Stuck (an_action ∷ []) self.old o.0) }
     {
         let token = self.take()?;
         let Token::Name(name, place) = token else {
@@ -201,7 +209,8 @@ impl<'k, 't, 'w, 'x, 'e, 'y, 'n> Reader<'k, 't, 'w, 'x, 'e, 'y, 'n> {
     // The variable of a fixpoint and the dot after it.
     fn fixpoint_head(&mut self) -> Result<u8, Offence>
         ensures onto { Onto self.old self.new }
-        ensures reads { MatchResult result (Heads self.old self.new) (λ o. Stuck (a_variable ∷ expected dot ∷ []) self.old o.0) }
+        ensures reads { MatchResult result (Heads self.old self.new)
+            (λ o. Stuck (a_variable ∷ expected dot ∷ []) self.old o.0) }
     {
         let v = self.variable()?;
         self.expect(Sign::Dot)?;
@@ -215,7 +224,8 @@ impl<'k, 't, 'w, 'x, 'e, 'y, 'n> Reader<'k, 't, 'w, 'x, 'e, 'y, 'n> {
     fn phrase(&mut self, level: Level) -> Result<usize, Offence>
         requires { Inside self.old }
         ensures onto { Onto self.old self.new }
-        ensures reads { MatchResult result (Did level (PhraseOf level) Stops self.old self.new) (λ o. Stuck (a_unit level ∷ and_tail level ∷ or_tail level ∷ []) self.old o.0) }
+        ensures reads { MatchResult result (Did level (PhraseOf level) Stops self.old self.new)
+            (λ o. Stuck (a_unit level ∷ and_tail level ∷ or_tail level ∷ []) self.old o.0) }
     {
         let mut left = self.and_part(level)?;
         while self.operator(Sign::Or) {
@@ -230,7 +240,8 @@ impl<'k, 't, 'w, 'x, 'e, 'y, 'n> Reader<'k, 't, 'w, 'x, 'e, 'y, 'n> {
     fn and_part(&mut self, level: Level) -> Result<usize, Offence>
         requires { Inside self.old }
         ensures onto { Onto self.old self.new }
-        ensures reads { MatchResult result (Did level (AndPartOf level) (NotNext And) self.old self.new) (λ o. Stuck (a_unit level ∷ and_tail level ∷ []) self.old o.0) }
+        ensures reads { MatchResult result (Did level (AndPartOf level) (NotNext And) self.old self.new)
+            (λ o. Stuck (a_unit level ∷ and_tail level ∷ []) self.old o.0) }
     {
         let mut left = self.unit(level)?;
         while self.operator(Sign::And) {
@@ -244,7 +255,8 @@ impl<'k, 't, 'w, 'x, 'e, 'y, 'n> Reader<'k, 't, 'w, 'x, 'e, 'y, 'n> {
     fn unit(&mut self, level: Level) -> Result<usize, Offence>
         requires { Inside self.old }
         ensures onto { Onto self.old self.new }
-        ensures reads { MatchResult result (Did level (UnitOf level) Any self.old self.new) (λ o. Stuck (a_unit level ∷ []) self.old o.0) }
+        ensures reads { MatchResult result (Did level (UnitOf level) Any self.old self.new)
+            (λ o. Stuck (a_unit level ∷ []) self.old o.0) }
     {
         let token = self.take()?;
         match token {
@@ -287,7 +299,8 @@ impl<'k, 't, 'w, 'x, 'e, 'y, 'n> Reader<'k, 't, 'w, 'x, 'e, 'y, 'n> {
 
     // Refuses tokens that go on.
     fn end(&self) -> Result<(), Offence>
-        ensures { MatchResult result (λ _. left self.now ≡ []) (λ o. (s : Sym) × (rest : List Tok) × (left self.now ≡ tok s o.0 ∷ rest)) }
+        ensures { MatchResult result (λ _. left self.now ≡ [])
+            (λ o. (s : Sym) × (rest : List Tok) × (left self.now ≡ tok s o.0 ∷ rest)) }
     {
         match self.tokens.first() {
             Some(token) => Err(Offence(token.place())),
@@ -299,7 +312,8 @@ impl<'k, 't, 'w, 'x, 'e, 'y, 'n> Reader<'k, 't, 'w, 'x, 'e, 'y, 'n> {
     fn whole(&mut self) -> Result<usize, Refusal>
         requires { Inside self.old }
         ensures tables { SameTables self.old self.new }
-        ensures parses { (x : Source) → State x self.old none_entered → Parsed x self.old.end (left self.old) self.new.exprs.now.entries.now self.new.nodes.now.entries.now result }
+        ensures parses { (x : Source) → State x self.old none_entered → Parsed x self.old.end
+            (left self.old) self.new.exprs.now.entries.now self.new.nodes.now.entries.now result }
     {
         self.phrase(Level::Formula)?;
         self.end()?;
@@ -338,8 +352,8 @@ fn only_at(wanted: Level, level: Level, place: usize) -> Result<(), Offence>
     }
 }
 
-// The sign that closes what a modality's sign opens. Here and below a sign stands for the modality or the fixpoint that it
-// begins, and no other comes.
+// The sign that closes what a modality's sign opens. Here and below a sign stands for the modality or the
+// fixpoint that it begins, and no other comes.
 fn closing(sign: Sign) -> Sign
     ensures { (m : Modality) → sign ≡ opening m → result ≡ closing m }
 {

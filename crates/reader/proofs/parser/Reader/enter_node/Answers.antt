@@ -3,4 +3,5 @@ use Rattle.reader.proofs.Filled.{enters_node}
 use Rattle.reader.proofs.parser.Reader.enter_node.Goals as goal
 
 pub returns-clause-enters : goal.returns-clause-enters
-returns-clause-enters c = enters_node c.args.self.now _ refl refl c.args.node c.enter.ensures.entries refl c.enter.ensures.count refl c.enter.result c.enter.ensures.number
+returns-clause-enters c = enters_node c.args.self.now _ refl refl c.args.node c.enter.ensures.entries refl
+    c.enter.ensures.count refl c.enter.result c.enter.ensures.number

@@ -9,5 +9,13 @@ returns-clause-operates c =
     as_sign c.args.wanted c.in-Some.token.now (c.is_sign.ensures.0 (search rules))
     (record {
       next = grind (arith, common_steps);
-      same = λ x t s. record { actions = s.actions; features = s.features; nodes = s.nodes; exprs = s.exprs; node_count = s.node_count; expr_count = s.expr_count; unknown = s.unknown };
+      same = λ x t s. record {
+        actions = s.actions;
+        features = s.features;
+        nodes = s.nodes;
+        exprs = s.exprs;
+        node_count = s.node_count;
+        expr_count = s.expr_count;
+        unknown = s.unknown;
+      };
     })

@@ -8,4 +8,9 @@ use Rattle.reader.proofs.parser.Reader.variable.Goals as goal
 pub returns-in_default : goal.returns-in_default
 returns-in_default c =
     let t = c.in_ok-token.token in
-    record { onto = search rules; reads = subst (Stuck _ c.args.self.now) (sym c.place.ensures) (stuck_token a_variable c.args.self.now c.take.new.self (sym_of t) (place_of t) c.in_ok-token.ensures.takes (no_variable t c.in_default.not-Variable)) }
+    record {
+      onto = search rules;
+      reads = subst (Stuck _ c.args.self.now) (sym c.place.ensures)
+          (stuck_token a_variable c.args.self.now c.take.new.self (sym_of t) (place_of t)
+          c.in_ok-token.ensures.takes (no_variable t c.in_default.not-Variable));
+    }

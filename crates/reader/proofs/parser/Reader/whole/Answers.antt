@@ -10,7 +10,9 @@ returns-in_err-phrase-clause-parses c =
 pub returns-in_err-end-clause-parses : goal.returns-in_err-end-clause-parses
 returns-in_err-end-clause-parses c =
     let p = err_from_is_err_and c.from_residual-in_err-end.result c.from_residual-in_err-end.ensures.1 in
-    rw (p.1, p.2) (λ x st. parsed_more x _ _ c.args.self.now c.phrase.new.self c.in_ok-phrase.field-0 _ c.in_ok-phrase.ensures.onto c.in_ok-phrase.ensures.reads c.in_err-end.ensures)
+    rw (p.1, p.2) (λ x st. parsed_more x _ _ c.args.self.now c.phrase.new.self c.in_ok-phrase.field-0 _
+    c.in_ok-phrase.ensures.onto c.in_ok-phrase.ensures.reads c.in_err-end.ensures)
 
 pub returns-clause-parses : goal.returns-clause-parses
-returns-clause-parses c = λ x st. parsed_all x c.args.self.now c.phrase.new.self c.in_ok-phrase.field-0 c.verdict.result c.in_ok-phrase.ensures.reads c.in_ok-end.ensures c.verdict.ensures st
+returns-clause-parses c = λ x st. parsed_all x c.args.self.now c.phrase.new.self c.in_ok-phrase.field-0
+    c.verdict.result c.in_ok-phrase.ensures.reads c.in_ok-end.ensures c.verdict.ensures st
