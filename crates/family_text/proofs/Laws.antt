@@ -43,7 +43,7 @@ expected_ok e None n h = never h
 same_bytes : (x y : List ℕ) → bytes_eq x y ≡ true → x ≡ y
 same_bytes x y = (bytes_eq-Decides x y).0
 
-bytes_same : (x y : List ℕ) → x ≡ y → bytes_eq x y ≡ true
+pub bytes_same : (x y : List ℕ) → x ≡ y → bytes_eq x y ≡ true
 bytes_same x y = (bytes_eq-Decides x y).1
 
 bytes_differ : (x y : List ℕ) → x ≢ y → bytes_eq x y ≡ false
@@ -196,7 +196,7 @@ both : (a b : Bool) → (a && b) ≡ true → (a ≡ true) × (b ≡ true)
 both true b h = (refl, h)
 both false b h = let z : ◌≡◌ {A = ℕ} 0 1 = cc in absurd (omega arith)
 
-two_digits : (s : ℕ) → 10 ≤ s → s < 64 → decimal s ≡ (48 + s / 10) ∷ (48 + s % 10) ∷ []
+pub two_digits : (s : ℕ) → 10 ≤ s → s < 64 → decimal s ≡ (48 + s / 10) ∷ (48 + s % 10) ∷ []
 two_digits s low high =
     decimal_step s low (omega arith) ∙ ap (λ ds. ds ++ (48 + s % 10) ∷ []) (decimal_digit (s / 10) (omega arith))
 

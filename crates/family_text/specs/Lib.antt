@@ -3,3 +3,4 @@ pub mod Records
 pub mod Grammar
 pub mod Reading
 pub mod Faults
+pub mod Printing

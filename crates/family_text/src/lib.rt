@@ -3,11 +3,13 @@
 
 mod errors;
 mod line;
+mod printing;
 mod reading;
 mod records;
 mod vocabulary;
 mod words;
 
-pub use errors::{Expected, ReadError};
+pub use errors::{Expected, Lack, PrintError, ReadError};
+pub use printing::print;
 pub use reading::read;
 pub use vocabulary::{ListError, Vocabulary};

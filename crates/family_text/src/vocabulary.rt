@@ -10,7 +10,7 @@ use words::Names;
 // How many actions and features have names at most.
 const MAX_ACTIONS: u8 = 64;
 
-const MAX_FEATURES: u8 = 16;
+pub(crate) const MAX_FEATURES: u8 = 16;
 
 // The words that part a transition's condition, and so name no feature.
 pub(crate) const NEEDS: &[u8] = b"needs";
