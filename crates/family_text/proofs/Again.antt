@@ -4,7 +4,8 @@ use Rattle.std.specs.List.{fold, flat_map, prefix_len, slice_split, before_first
 use Rattle.std.specs.Char.{is_ascii_lowercase, is_ascii_whitespace}
 use Rattle.std.specs.Fmt.{decimal}
 use Rattle.std.proofs.lemmas.Fmt.{decimal_digit}
-use Rattle.std.proofs.lemmas.Nat.{mod-pow-add, or_shifted_r}
+use Rattle.std.proofs.lemmas.Nat.{mod-pow-add}
+use Rattle.std.specs.Int.Bits.{or_shifted_r}
 use Rattle.std.proofs.Math.Nat.{mod-eq_of_lt, mod-lt}
 use Rattle.std.proofs.lemmas.Nat.{pow_pos}
 use Rattle.std.proofs.lemmas.List.Sums.{fold-append}
@@ -80,8 +81,9 @@ kept (w ∷ ws) h =
 uncut : (bs : List ℕ) → NoHash bs → before_first (λ b. eqb b 35) bs ≡ bs
 uncut [] h = refl
 uncut (b ∷ bs) h =
+    let m : 1 + prefix_len (λ b. not (eqb b 35)) bs ≡ suc (prefix_len (λ b. not (eqb b 35)) bs) = omega arith in
     ap (λ t. take (cond (not t) (1 + prefix_len (λ b. not (eqb b 35)) bs) 0) (b ∷ bs)) h.0
-    ∙ ap (λ n. take n (b ∷ bs)) (omega arith) ∙ ap (λ cs. b ∷ cs) (uncut bs h.1)
+    ∙ ap (λ n. take n (b ∷ bs)) m ∙ ap (λ cs. b ∷ cs) (uncut bs h.1)
 
 pub words_again : (w : Word) (ws : List Word) → Plain w → AllByRecursion Plain ws → words_of (w ++ spaced ws) ≡ w ∷ ws
 words_again w ws p h =
@@ -105,9 +107,10 @@ plain_decimal : (s : ℕ) → s < 64 → Plain (decimal s)
 plain_decimal s h = ⊎_elim small large (cases_lt s 10)
   where
     small : s < 10 → Plain (decimal s)
-    small lt = subst Plain (sym (decimal_digit s lt)) (omega arith, digit_plain s lt, tt)
+    small lt = subst Plain (sym (decimal_digit s lt)) (omega arith, (digit_plain s lt, tt))
+
     large : 10 ≤ s → Plain (decimal s)
-    large le = subst Plain (sym (two_digits s le h)) (omega arith, digit_plain (s / 10) (omega arith), digit_plain (s % 10) (omega arith), tt)
+    large le = subst Plain (sym (two_digits s le h)) (omega arith, (digit_plain (s / 10) (omega arith), (digit_plain (s % 10) (omega arith), tt)))
 
 -- Two lists of plain names, each at its number.
 pub record Known (names : Lists) : Type 0 where
@@ -116,7 +119,7 @@ pub record Known (names : Lists) : Type 0 where
   pub action_numbers : Numbered names.actions
   pub feature_numbers : Numbered names.features
 
-pub known : {m n : ℕ} {as fs : List ℕ} (names : Lists) → WordList m as names.actions → WordList n fs names.features → Known names
+pub known : {m n : ℕ} {bs cs : List ℕ} (names : Lists) → WordList m bs names.actions → WordList n cs names.features → Known names
 known names a f = record {
   actions = plain_names names.actions a.names;
   features = plain_names names.features f.names;
@@ -163,13 +166,16 @@ union_below set (suc n) =
     ∙ ap (λ s. union s (one_if (bit set n) n)) (union_below set n) ∙ go (digit_cases (set / 2 ^ n))
   where
     top : set % 2 ^ suc n ≡ set / 2 ^ n % 2 * 2 ^ n + set % 2 ^ n
-    top = ap (λ k. set % 2 ^ k) (omega arith) ∙ mod-pow-add set 1 n
+    top = let e : suc n ≡ 1 + n = omega arith in ap (λ k. set % 2 ^ k) e ∙ mod-pow-add set 1 n
 
     go : (set / 2 ^ n % 2 ≡ 0) ⊎ (set / 2 ^ n % 2 ≡ 1) → union (set % 2 ^ n) (one_if (bit set n) n) ≡ set % 2 ^ suc n
-    go (inl e) = ap (λ d. union (set % 2 ^ n) (one_if (eqb d 1) n)) e ∙ sym (top ∙ ap (λ d. d * 2 ^ n + set % 2 ^ n) e ∙ omega arith)
+    go (inl e) =
+        let z : 0 * 2 ^ n + set % 2 ^ n ≡ set % 2 ^ n = omega arith in
+        ap (λ d. union (set % 2 ^ n) (one_if (eqb d 1) n)) e ∙ sym (top ∙ ap (λ d. d * 2 ^ n + set % 2 ^ n) e ∙ z)
     go (inr e) =
+        let one : 2 ^ n ≡ 1 * 2 ^ n = omega arith in
         ap (λ d. union (set % 2 ^ n) (one_if (eqb d 1) n)) e
-        ∙ ap (bit_or (set % 2 ^ n)) (omega arith) ∙ or_shifted_r 1 n (set % 2 ^ n) (mod-lt set (pow_pos n))
+        ∙ ap (bit_or (set % 2 ^ n)) one ∙ or_shifted_r 1 n (set % 2 ^ n) (mod-lt set (pow_pos n))
         ∙ sym (top ∙ ap (λ d. d * 2 ^ n + set % 2 ^ n) e)
 
 union_again : (set : ℕ) → set < 2 ^ 16 → union 0 (features_below set 16) ≡ set
@@ -209,28 +215,50 @@ words_parts (u ∷ us) vs a b = (a.0, words_parts us vs a.1 b)
 
 -- ---- records
 
-plain_key : Plain (codes "vat") × Plain (codes "step") × Plain (codes "needs") × Plain (codes "bars")
+abbrev PlainKeys : Type 0
+PlainKeys = (Plain (codes "vat")) × (Plain (codes "step")) × (Plain (codes "needs")) × (Plain (codes "bars"))
+
+plain_key : PlainKeys
 plain_key = (
-  (omega arith, refl, refl, refl, tt),
-  (omega arith, refl, refl, refl, refl, tt),
-  (omega arith, refl, refl, refl, refl, refl, tt),
-  (omega arith, refl, refl, refl, refl, tt))
+  (omega arith, (refl, (refl, (refl, tt)))),
+  (omega arith, (refl, (refl, (refl, (refl, tt))))),
+  (omega arith, (refl, (refl, (refl, (refl, (refl, tt)))))),
+  (omega arith, (refl, (refl, (refl, (refl, tt))))),
+)
 
 transition_plain : (names : Lists) → Known names → (t : Transition) → IsPrintable names (AddTransition t) → AllByRecursion Plain (transition_words names t)
-transition_plain names n t h =
-    (plain_decimal t.source h.0, at names.actions t.action h.1 n.actions, plain_decimal t.target h.2,
-     words_parts (part_words names (codes "needs") t.required) (part_words names (codes "bars") t.excluded)
-     (part_plain names n (codes "needs") t.required plain_key.2 h.3) (part_plain names n (codes "bars") t.excluded plain_key.3 h.4))
+transition_plain names n t h = (
+  plain_decimal t.source h.0,
+  (
+    at names.actions t.action h.1 n.actions,
+    (
+      plain_decimal t.target h.2,
+      words_parts (part_words names (codes "needs") t.required) (part_words names (codes "bars") t.excluded)
+          (part_plain names n (codes "needs") t.required plain_key.2 h.3) (part_plain names n (codes "bars") t.excluded plain_key.3 h.4),
+    ),
+  ),
+)
 
 spelled : (names : Lists) → Known names → (r : Record) → IsPrintable names r → Spells names (words_of (line_for names r)) r
 spelled names n (AddProduct set) h =
     (feature_words names set, words_again (codes "vat") (feature_words names set) plain_key.0 (set_plain names n set h), set_again names n set h)
-spelled names n (AddTransition t) h =
-    (decimal t.source, word_at names.actions t.action, decimal t.target, part_words names (codes "needs") t.required ++ part_words names (codes "bars") t.excluded,
-     words_again (codes "step") (transition_words names t) plain_key.1 (transition_plain names n t h),
-     (refl, h.0), n.action_numbers t.action h.1, (refl, h.2),
-     (part_words names (codes "needs") t.required, part_words names (codes "bars") t.excluded, refl,
-      part_again names n (codes "needs") t.required h.3, part_again names n (codes "bars") t.excluded h.4))
+spelled names n (AddTransition t) h = (
+  decimal t.source,
+  word_at names.actions t.action,
+  decimal t.target,
+  part_words names (codes "needs") t.required ++ part_words names (codes "bars") t.excluded,
+  words_again (codes "step") (transition_words names t) plain_key.1 (transition_plain names n t h),
+  (refl, h.0),
+  n.action_numbers t.action h.1,
+  (refl, h.2),
+  (
+    part_words names (codes "needs") t.required,
+    part_words names (codes "bars") t.excluded,
+    refl,
+    part_again names n (codes "needs") t.required h.3,
+    part_again names n (codes "bars") t.excluded h.4,
+  ),
+)
 
 one_line : (names : Lists) → Known names → (r : Record) → IsPrintable names r → OneLine (line_for names r)
 one_line names n (AddProduct set) h = line_all (λ b. eqb b 10 ≡ false) refl no_end (codes "vat") (feature_words names set) plain_key.0 (set_plain names n set h)

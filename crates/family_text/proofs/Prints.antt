@@ -40,7 +40,7 @@ one_more names set k start {new} {old} e f =
     let one = map (word_at names.features) (one_if (bit set k) k) in
     f ∙ ap (λ bs. bs ++ spaced one) e ∙ append_assoc start (spaced (names_below names set k)) (spaced one)
     ∙ ap (λ bs. start ++ bs) (sym (flat_map-append (λ w. 32 ∷ w) (names_below names set k) one)
-      ∙ ap spaced (sym (map_append (word_at names.features) (features_below set k) (one_if (bit set k) k)) ∙ ap (map (word_at names.features)) (sym (below_next set k))))
+    ∙ ap spaced (sym (map_append (word_at names.features) (features_below set k) (one_if (bit set k) k)) ∙ ap (map (word_at names.features)) (sym (below_next set k))))
 
 -- one record more
 pub length_more : (rs : List Record) (r : Record) → length (rs ++ r ∷ []) ≡ length rs + 1

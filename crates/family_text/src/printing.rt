@@ -1,12 +1,13 @@
 // Printing records as text.
-ghost use Rattle.std.specs.Prelude.{◌≡◌, ◌++◌, ◌∷◌, ◌<◌, ◌≤◌, [], length, map, Some, IfOk, IfErr, OnOk, MatchResult};
+ghost use Rattle.std.specs.Prelude.{◌≡◌, ◌++◌, ◌∷◌, ◌<◌, ◌≤◌, List, [], length, map, Some, IfOk, IfErr, OnOk, MatchResult};
 ghost use Rattle.std.specs.Fmt.{decimal};
 ghost use Rattle.words.specs.Cut.{cut};
 ghost use Rattle.family_text.specs.Words.{word_at};
-ghost use Rattle.family_text.specs.Grammar.{vocabulary};
+ghost use Rattle.family_text.specs.Grammar.{vocabulary, Describes};
+ghost use Rattle.book.specs.declared.records.Record.{Record as Entry};
 ghost use Rattle.family_text.specs.declared.errors.Lack.TheVariants.{State, ActionName};
 ghost use Rattle.family_text.specs.Printing.{spaced, feature_words, part_words, transition_words, line_for};
-ghost use Rattle.family_text.specs.Printing.{one_if, Named, Unnamed, IsPrintable, Lacks, LacksText, Prints, IsPrintFault};
+ghost use Rattle.family_text.specs.Printing.{one_if, Holds, Named, Unnamed, IsPrintable, Lacks, LacksText, Prints, IsPrintFault};
 ghost use Rattle.book.specs.Records.{record_in};
 ghost use Rattle.book.specs.declared.records.Record.TheVariants.{AddTransition};
 ghost use Rattle.families.specs.Bits.{bit};
@@ -63,10 +64,8 @@ fn check_state(state: u8) -> Result<(), Lack>
 
 impl Vocabulary<'_> {
     fn check_action(&self, action: u8) -> Result<(), Lack>
-        ensures {
-            let count = length (vocabulary self.now).actions in
-            MatchResult result (λ _. action < count) (λ e. (e ≡ ActionName action) × (count ≤ action))
-        }
+        ensures { let count = length (vocabulary self.now).actions in
+            MatchResult result (λ _. action < count) (λ e. (e ≡ ActionName action) × (count ≤ action)) }
     {
         if self.actions.name(action).is_some() {
             Ok(())
@@ -88,10 +87,8 @@ impl Vocabulary<'_> {
     }
 
     fn check_transition(&self, t: &Transition) -> Result<(), Lack>
-        ensures {
-            MatchResult result (λ _. IsPrintable (vocabulary self.now) (AddTransition t.now))
-            (Lacks (vocabulary self.now) (AddTransition t.now))
-        }
+        ensures { MatchResult result (λ _. IsPrintable (vocabulary self.now) (AddTransition t.now))
+            (Lacks (vocabulary self.now) (AddTransition t.now)) }
     {
         check_state(t.source)?;
         self.check_action(t.action)?;
@@ -101,9 +98,7 @@ impl Vocabulary<'_> {
     }
 
     fn check(&self, entry: Record) -> Result<(), Lack>
-        ensures {
-            MatchResult result (λ _. IsPrintable (vocabulary self.now) entry) (Lacks (vocabulary self.now) entry)
-        }
+        ensures { MatchResult result (λ _. IsPrintable (vocabulary self.now) entry) (Lacks (vocabulary self.now) entry) }
     {
         match entry {
             Record::AddProduct(configuration) => self.check_features(configuration),
@@ -113,11 +108,9 @@ impl Vocabulary<'_> {
 
     // The record of eight bytes, if it can be printed.
     fn printable(&self, bytes: [u8; RECORD_BYTES]) -> Result<Record, Lack>
-        ensures {
-            MatchResult result
+        ensures { MatchResult result
             (λ entry. (record_in bytes ≡ Some entry) × IsPrintable (vocabulary self.now) entry)
-            (LacksText (vocabulary self.now) (record_in bytes))
-        }
+            (LacksText (vocabulary self.now) (record_in bytes)) }
     {
         match read(bytes) {
             Some(entry) => {
@@ -131,10 +124,8 @@ impl Vocabulary<'_> {
     // The name of a feature, if a set has it.
     fn push_feature(&self, text: &mut Vec<u8>, set: u16, feature: u8) -> Result<(), AllocError>
         requires { feature < 16 }
-        ensures {
-            let named = map (word_at (vocabulary self.now).features) (one_if (bit set feature) feature) in
-            OnOk result (text.new.items ≡ text.old.items ++ spaced named)
-        }
+        ensures { let named = map (word_at (vocabulary self.now).features) (one_if (bit set feature) feature) in
+            OnOk result (text.new.items ≡ text.old.items ++ spaced named) }
     {
         if !has(set, feature) {
             return Ok(());
@@ -143,9 +134,7 @@ impl Vocabulary<'_> {
     }
 
     fn push_features(&self, text: &mut Vec<u8>, set: u16) -> Result<(), AllocError>
-        ensures {
-            OnOk result (text.new.items ≡ text.old.items ++ spaced (feature_words (vocabulary self.now) set))
-        }
+        ensures { OnOk result (text.new.items ≡ text.old.items ++ spaced (feature_words (vocabulary self.now) set)) }
     {
         for feature in 0..MAX_FEATURES {
             self.push_feature(text, set, feature)?;
@@ -154,9 +143,7 @@ impl Vocabulary<'_> {
     }
 
     fn push_part(&self, text: &mut Vec<u8>, key: &[u8], set: u16) -> Result<(), AllocError>
-        ensures {
-            OnOk result (text.new.items ≡ text.old.items ++ spaced (part_words (vocabulary self.now) key.now set))
-        }
+        ensures { OnOk result (text.new.items ≡ text.old.items ++ spaced (part_words (vocabulary self.now) key.now set)) }
     {
         if set == 0 {
             return Ok(());
@@ -165,10 +152,13 @@ impl Vocabulary<'_> {
         self.push_features(text, set)
     }
 
-    fn push_transition(&self, alloc: Global, text: &mut Vec<u8>, t: &Transition) -> Result<(), AllocError>
-        ensures {
-            OnOk result (text.new.items ≡ text.old.items ++ spaced (transition_words (vocabulary self.now) t.now))
-        }
+    fn push_transition(
+        &self,
+        alloc: Global,
+        text: &mut Vec<u8>,
+        t: &Transition,
+    ) -> Result<(), AllocError>
+        ensures { OnOk result (text.new.items ≡ text.old.items ++ spaced (transition_words (vocabulary self.now) t.now)) }
     {
         push_state(alloc, text, t.source)?;
         push_word(text, name(self.actions, t.action))?;
@@ -200,13 +190,15 @@ impl Vocabulary<'_> {
 /// transition for every product is printed and read as one that needs and bars nothing.
 pub fn print(alloc: Global, names: &Vocabulary, bytes: &[u8]) -> Result<Vec<u8>, PrintError>
     ensures printed { IfOk result (λ text. Prints (vocabulary names.now) bytes.now text.items) }
+    ensures again { IfOk result (λ text.
+        (said : List Entry) × Holds bytes.now said × Describes (vocabulary names.now) text.items said) }
     ensures fault { IfErr result (IsPrintFault (vocabulary names.now) bytes.now) }
 {
     let mut text = Vec::new(alloc);
-    let (records, rest) = bytes.as_chunks::<RECORD_BYTES>();
-    if !rest.is_empty() {
+    if bytes.len() % RECORD_BYTES != 0 {
         return Err(PrintError::Length);
     }
+    let (records, _) = bytes.as_chunks::<RECORD_BYTES>();
     for (number, record) in records.iter().enumerate() {
         match names.printable(*record) {
             Ok(entry) => names.push_line(alloc, &mut text, entry)?,
