@@ -1,6 +1,6 @@
 -- What the tests of the rules on variables say.
 use Rattle.std.proofs.Common.{◌≡◌, ℕ, ◌<◌, Bool, true, false, not, ◌||◌, ◌↔◌, List, length, take}
-use Rattle.std.proofs.Common.{Option, Some, None, is_some, is_none, IsTrue, IsSomeAnd, sym, refl, ap, ◌∙◌, subst, inl, inr, arith}
+use Rattle.std.proofs.Common.{Option, Some, None, option_map, is_some, is_none, IsTrue, IsSomeAnd, sym, refl, ap, ◌∙◌, subst, inl, inr, arith}
 use Rattle.std.proofs.Common.{get_or-take, length-take-le}
 use Rattle.std.specs.Option.{option_map_or, option_and_then}
 use Rattle.std.specs.List.{list_any}
@@ -14,7 +14,7 @@ use Rattle.formulas.specs.Laws.{Rebinds, Unbound, OddlyBound, TestsSay}
 use Rattle.formulas.specs.declared.Node.{Node}
 use Rattle.formulas.specs.declared.Node.TheVariants as nd
 use Rattle.formulas.specs.declared.judge.Binding.{Binding}
-use Rattle.formulas.proofs.Climbing.{binds_iff, parity, nearest_one, nearest_some, nearest_none}
+use Rattle.formulas.proofs.Climbing.{binds_iff, parity, nearest_one, nearest_some, nearest_none, fixpoint_is}
 
 -- An entry past the end is false: it names, binds and is nothing.
 module _ (ns : List Node) where
@@ -134,11 +134,11 @@ module _ (ns : List Node) (n : ℕ) where
 pub bound_there : (ns : List Node) → Tree ns → (n v b : ℕ) (k : Parity) → entry ns n ≡ nd.Variable v → Nearest ns v b k n
     → fixpoint_or_0 (binding ns n) ≡ b
 bound_there ns tree n v b k is near =
-    ap (λ x. fixpoint_or_0 (option_and_then (λ w. nearest ns w n) (variable x))) is ∙ go (nearest ns v n) refl
+    ap (λ x. fixpoint_or_0 (option_and_then (λ w. nearest ns w n) (variable x))) is ∙ go (nearest ns v n) (fixpoint_is ns v tree near)
   where
-    go : (o : Option Binding) → nearest ns v n ≡ o → fixpoint_or_0 o ≡ b
-    go None e = absurd (nearest_none ns v tree n e b k near)
-    go (Some c) e = (nearest_one ns v tree (nearest_some ns v tree n c e) near).0
+    go : (o : Option Binding) → option_map (λ x. x.fixpoint) o ≡ Some b → fixpoint_or_0 o ≡ b
+    go None e = cc
+    go (Some x) e = cc
 
 pub tests_say : TestsSay
 tests_say ns tree n = (rebinds_iff ns n, bound_iff ns n tree, even_iff ns n tree)

@@ -1,6 +1,6 @@
 -- Evaluation fills the rows with the meanings: by one walk through a derivation, which carries for each entry what its
 -- evaluation comes to.
-use Rattle.std.proofs.Common.{◌≡◌, ℕ, T, List, [], ◌∷◌, sym, refl, ◌∙◌, subst, inl, inr, arith}
+use Rattle.std.proofs.Common.{◌≡◌, ℕ, ◌<◌, Bool, true, false, option_map, T, List, [], ◌∷◌, sym, refl, ◌∙◌, subst, inl, inr, arith}
 use mathlib.Core.Logic.Iff
 use Rattle.families.specs.Families.{Family}
 use Rattle.formulas.specs.Trees.{Formula, Parity}
@@ -11,7 +11,10 @@ use Rattle.formulas.specs.declared.Node.{Node}
 use Rattle.formulas.specs.declared.Node.TheVariants as nd
 use Rattle.formulas.proofs.Trees.{under_le, under_part, under_top, parts_apart, first_of, later_of, one_of, distinct_of}
 use Rattle.formulas.proofs.Trees.{binds_one, nearest_part, nearest_out}
+use Rattle.formulas.proofs.Climbing.{fixpoint_is}
 use Rattle.formulas.proofs.Scope.{even_part}
+use Rattle.formulas.specs.Judge.{nearest}
+use Rattle.std.specs.Option.{option_map_or}
 use Rattle.semantics.specs.Plain.{Env, put}
 use Rattle.semantics.specs.Meaning.{Pairs, Means, Same}
 use Rattle.semantics.specs.Entries.{Filled}
@@ -21,10 +24,20 @@ use Rattle.semantics.specs.Evaluation.{Rounds, none, round, Evaluated, Evaluatio
 use Rattle.semantics.proofs.Rows.{parts_all, filled_same, fill_as, means_same, same_refl}
 use Rattle.semantics.proofs.RowRules.{means_not, means_or, means_and, means_diamond, means_box}
 use Rattle.semantics.proofs.Environments.{put_is}
-use Rattle.semantics.proofs.FixpointRounds.{Lasts, Even, lasts_first, lasts_next, lasts_last}
+use Rattle.semantics.proofs.FixpointRounds.{rank, Lasts, Even, lasts_first, lasts_next, lasts_fewer, lasts_last}
 
 pub same_row : (F : Family) (V W : Pairs) → SameRow F V W → Same F V W
 same_row F V W e s p s< p< = (λ t. subst T (e s p s<) t, λ t. subst T (sym (e s p s<)) t)
+
+-- Rows of products alone that are the same in the family are the same.
+rows_equal : (F : Family) (V W : Pairs) → OnlyProducts F V → OnlyProducts F W → Same F V W → SameRow F V W
+rows_equal F V W v w same s p s< = go (V s p) (W s p) (λ t. (same s p s< (v s p s< t)).0 t) (λ t. (same s p s< (w s p s< t)).1 t)
+  where
+    go : (a b : Bool) → (T a → T b) → (T b → T a) → a ≡ b
+    go true true f g = refl
+    go true false f g = absurd (f tt)
+    go false true f g = absurd (g tt)
+    go false false f g = refl
 
 -- The row of a constant, a connective or a modality.
 module _ (F : Family) (es : List Expr) (rows : Rows) (V : Pairs) where
@@ -318,6 +331,44 @@ module _ (F : Family) (es : List Expr) (ns : List Node) (tree : Tree ns) (balanc
     rounds_evaluated : {n c : ℕ} {start now : Rows} → Rounds F es ns n c start now → RoundsEvaluated n c start now
     rounds_evaluated (none {n} {c} {rows}) = no_rounds n c rows
     rounds_evaluated (round rounds part differs copied o) = round_evaluated (rounds_evaluated rounds) (evaluated part) copied o
+
+  -- Each round that comes to another row brings a fixpoint nearer to its end.
+  pub rounds_fewer : {n c : ℕ} {start now middle : Rows} (after : Rows) → Names c (entry ns n) → Begins F (entry ns n) (start n)
+      → NearestAbove ns n (λ _ b. OnlyProducts F (start b)) → Rounds F es ns n c start now → Evaluates F es ns now middle c
+      → ¬ SameRow F (middle n) (middle c) → SameRow F (after n) (middle c)
+      → rank F (entry ns n) (after n) < rank F (entry ns n) (now n)
+  rounds_fewer {n} {c} {start} {now} {middle} after nc begins above done_rounds part differs copied =
+      lasts_fewer F (formula_at es ns c) η (now n) (after n) (entry ns n) (even n c nc η)
+      (λ v b. means_same F (middle c) (after n) (formula_at es ns c) (put η v (now n)) (put η v (now n))
+      (same_row F (middle c) (after n) (back_row (after n) (middle c) copied)) (λ w. same_refl F (put η v (now n) w))
+      (part_filled nc e η (stands_above n start now η (r.others nc) stands) v b (now n) (same_refl F (now n))).0)
+      (r.lasts nc η stands (lasts_first F (formula_at es ns c) η (entry ns n) (start n) (even n c nc η) begins))
+      (λ same. differs (λ s p s<. still s p s< ∙ rows_equal F (now n) (after n) only_now only_after same s p s< ∙ copied s p s<))
+    where
+      r : RoundsEvaluated n c start now
+      r = rounds_evaluated done_rounds
+
+      e : Evaluated F es ns now middle c
+      e = evaluated part
+
+      -- each variable stands for the row of its nearest fixpoint
+      η : Env Pairs
+      η v = option_map_or start (option_map (λ x. x.fixpoint) (nearest ns v n)) (λ s p. false)
+
+      stands : NearestAbove ns n (λ v b. Same F (η v) (start b))
+      stands v b k near =
+          subst (λ o. Same F (option_map_or start o (λ s p. false)) (start b)) (sym (fixpoint_is ns v tree near)) (same_refl F (start b))
+
+      still : SameRow F (middle n) (now n)
+      still = e.others n (λ u. omega (arith, under_le ns tree c n u, tree.lower n c nc))
+
+      only_now : OnlyProducts F (now n)
+      only_now = r.products nc above (begins_products (entry ns n) (start n) begins)
+
+      only_after : OnlyProducts F (after n)
+      only_after =
+          only_row (middle c) (after n) copied
+          (part_products nc e (only_above n start now (r.others nc) above) only_now c itself)
 
 pub evaluation_fills : EvaluationFills
 evaluation_fills F es ns tree balanced before after n e = evaluated F es ns tree balanced e
