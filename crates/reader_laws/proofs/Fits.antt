@@ -1,5 +1,5 @@
 -- The numbers in the entries are in their ranges.
-use Rattle.std.proofs.Common.{◌≡◌, ℕ, ◌-◌, ◌<◌, ◌≤◌, ◌⊎◌, List, [], ◌∷◌, ◌++◌, length, get_or, Option, sym, ap, ◌∙◌, subst, inl, inr, arith}
+use Rattle.std.proofs.Common.{◌≡◌, ℕ, ◌-◌, ◌<◌, ◌≤◌, ◌⊎◌, List, [], ◌∷◌, ◌++◌, length, get_or, Option, IsTrue, refl, sym, ap, ◌∙◌, subst, inl, inr, arith}
 use Rattle.std.specs.List.{AllByRecursion}
 use Rattle.std.proofs.lemmas.List.{length_push, get_or_push, get_or_append_left}
 use Rattle.std.proofs.lemmas.Bool.{cases_lt}
@@ -13,7 +13,8 @@ use Rattle.grammar.specs.declared.Level.{Level}
 use Rattle.grammar.specs.declared.Level.TheVariants.{Formula as formula, Expression as expression}
 use Rattle.reader.specs.Numbering.{Tables, note, or_0, last, enter, modal_node, fixpoint_node}
 use Rattle.lexer.specs.Texts.{TokensOf, no_more, one_more}
-use Rattle.formulas.specs.Judge.{ExprFitsAt}
+use Rattle.formulas.specs.Judge.{expr_fits}
+use Rattle.formulas.proofs.Judging.{expr_test}
 use Rattle.formulas.specs.Sound.{Carries}
 use Rattle.reader_laws.proofs.Extends.{Extends, longer, note_exprs, note_nodes, enter_exprs, enter_some}
 use Rattle.reader_laws.proofs.Forests.{same_nodes}
@@ -100,6 +101,22 @@ modal_fits box es a e c h i = (h, i)
 fixpoint_fits : (x : Fixpoint) (es : List Expr) (v c : ℕ) → v ≤ 25 → Carries es (fixpoint_node x v c)
 fixpoint_fits least es v c h = h
 fixpoint_fits greatest es v c h = h
+
+-- An expression that names only entries below it, and a feature that there is.
+abbrev pub ExprFitsAt : ℕ → Expr → Type 0
+ExprFitsAt n (ex.Feature k) = k ≤ 15
+ExprFitsAt n (ex.Not c) = c < n
+ExprFitsAt n (ex.Or c d) = (c < n) × (d < n)
+ExprFitsAt n (ex.And c d) = (c < n) × (d < n)
+ExprFitsAt n x = Unit {0}
+
+pub fits_test : (n : ℕ) (x : Expr) → ExprFitsAt n x → IsTrue (expr_fits n x)
+fits_test n (ex.Feature k) h = expr_test n (ex.Feature k) (λ c p. absurd p) (λ j e. (let q : k ≡ j = cc in omega arith))
+fits_test n (ex.Not c) h = expr_test n (ex.Not c) (λ d p. omega arith) (λ j e. cc)
+fits_test n (ex.Or c d) h = expr_test n (ex.Or c d) (λ e p. elim p [ inl q ↦ omega (arith, h.0) | inr q ↦ omega (arith, h.1) ]) (λ j e. cc)
+fits_test n (ex.And c d) h = expr_test n (ex.And c d) (λ e p. elim p [ inl q ↦ omega (arith, h.0) | inr q ↦ omega (arith, h.1) ]) (λ j e. cc)
+fits_test n ex.False h = refl
+fits_test n ex.True h = refl
 
 abbrev pub ExprsFit : List Expr → Type 0
 ExprsFit xs = Each ExprFitsAt ex.False xs

@@ -171,11 +171,11 @@ module _ (action feat : List ℕ → Option ℕ) where
   forest (disjunction a b) t ns e =
       let w : Tables = fnt b (fnt a t) in
       let ew : Extends w.nodes ns = through (pushed w.nodes (nd.Or (last formula (fnt a t)) (last formula w))) e in
-      both ns t (fnt a t) w (forest a t ns (through (enter_nodes action feat formula b (fnt a t)) ew)) (forest b (fnt a t) ns ew) (nd.Or (last formula (fnt a t)) (last formula w)) e (λ c h. h) (λ c p. p) (λ h. h)
+      both ns t (fnt a t) w (forest a t ns (through (enter_nodes action feat formula b (fnt a t)) ew)) (forest b (fnt a t) ns ew) (nd.Or (last formula (fnt a t)) (last formula w)) e (λ c h. h) (λ c p. p) (λ h. (h, tt))
   forest (conjunction a b) t ns e =
       let w : Tables = fnt b (fnt a t) in
       let ew : Extends w.nodes ns = through (pushed w.nodes (nd.And (last formula (fnt a t)) (last formula w))) e in
-      both ns t (fnt a t) w (forest a t ns (through (enter_nodes action feat formula b (fnt a t)) ew)) (forest b (fnt a t) ns ew) (nd.And (last formula (fnt a t)) (last formula w)) e (λ c h. h) (λ c p. p) (λ h. h)
+      both ns t (fnt a t) w (forest a t ns (through (enter_nodes action feat formula b (fnt a t)) ew)) (forest b (fnt a t) ns ew) (nd.And (last formula (fnt a t)) (last formula w)) e (λ c h. h) (λ c p. p) (λ h. (h, tt))
   forest (modal m w p y a) t ns e =
       let u : Tables = enter action feat expression y (note (action w) p t) in
       let z : Tables = fnt a u in

@@ -15,12 +15,11 @@ use Rattle.grammar.specs.Grammar.{Tree}
 use Rattle.grammar.specs.declared.Level.TheVariants.{Formula as formula}
 use Rattle.reader.specs.Numbering.{none_entered, or_0, last}
 use Rattle.reader.specs.Outcome.{numbering, Formed, Tried, long_text, no_words, no_token, no_formula, unknown_name, too_many, accepted, Reading, short_table, tried}
-use Rattle.formulas.specs.Judge.{ExprFitsAt}
 use Rattle.reader_laws.specs.Results.{Stands, Structured, TablesHold}
 use Rattle.reader_laws.proofs.Extends.{Extends, same, longer, enter_some}
 use Rattle.reader_laws.proofs.Back.{formula_back}
 use Rattle.reader_laws.proofs.Forests.{Forest, forest}
-use Rattle.reader_laws.proofs.Fits.{vars, ExprsFit, exprs_fit, nodes_fit, more_exprs}
+use Rattle.reader_laws.proofs.Fits.{vars, ExprFitsAt, fits_test, ExprsFit, exprs_fit, nodes_fit, more_exprs}
 
 small : (ws : List (List ℕ)) (w : List ℕ) (n : ℕ) → length ws ≤ suc n → or_0 (number ws w) ≤ n
 small ws w n le = go (number ws w) refl
@@ -106,7 +105,7 @@ module _ (text actions features : List ℕ) (n m : ℕ) (room : (64 ≤ n) × (6
       record {
         some = enter_some (number av) (number fv) formula f none_entered;
         few = few_nodes;
-        exprs = beyond (numbering av fv f).exprs (n - length (numbering av fv f).exprs) (exprs_fit (number av) (number fv) acts feats f none_entered (λ i lt. absurd (omega arith)));
+        exprs = λ i lt. fits_test i (get_or es i ex.False) (beyond (numbering av fv f).exprs (n - length (numbering av fv f).exprs) (exprs_fit (number av) (number fv) acts feats f none_entered (λ i lt. absurd (omega arith))) i lt);
         nodes = λ i lt. more_exprs (numbering av fv f).exprs es (get_or (numbering av fv f).nodes i nd.False) (longer (front (numbering av fv f).exprs _)) (nodes_fit (number av) (number fv) acts feats f none_entered (vars text formed.tokens formed.derived.0 f formed.lexed formed.derived.1) (λ j le. absurd (omega arith)) i lt);
         tree = as_tree (numbering av fv f).nodes (λ c. c ≡ last formula (numbering av fv f)) whole;
         named = λ c lt. one_whole c lt (whole.named c (omega arith) (omega arith));

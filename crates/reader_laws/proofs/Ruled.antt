@@ -6,37 +6,25 @@ use Rattle.formulas.specs.declared.Expr.{Expr}
 use Rattle.formulas.specs.declared.Expr.TheVariants as ex
 use Rattle.formulas.specs.declared.Node.{Node}
 use Rattle.formulas.specs.declared.Node.TheVariants as nd
-use Rattle.formulas.specs.Rules as rule
-use Rattle.formulas.specs.Tables.{Names}
-use Rattle.formulas.specs.Judge.{Few, Kept, times, naming}
-use Rattle.formulas.proofs.Naming.{names_times, times_names, apart_times, naming_one}
-use Rattle.formulas.proofs.Judging.{node_fits}
+use Rattle.formulas.specs.Tables.{entry}
+use Rattle.formulas.specs.Judge.{rules, AllKept}
+use Rattle.formulas.proofs.Naming.{named_in_tree}
+use Rattle.formulas.proofs.Judging.{few_iff, node_test, once_iff}
 use Rattle.reader.specs.Outcome.{numbering, Tried, long_text, no_words, no_token, no_formula, unknown_name, too_many, accepted}
 use Rattle.reader_laws.specs.Results.{Structured, RulesKept}
 use Rattle.reader_laws.proofs.Hold.{tried_hold}
 
-module _ (es : List Expr) (ns : List Node) (s : Structured es ns) where
-  others_none : (n c q : ℕ) → Names c (get_or ns n nd.False) → ¬ (q ≡ n) → times c (get_or ns q nd.False) ≡ 0
-  others_none n c q nc ne =
-      elim (cases_lt 0 (times c (get_or ns q nd.False))) [
-        | inl k ↦ absurd (ne (s.tree.once q n c (times_names c (get_or ns q nd.False) (omega arith)) nc))
-        | inr k ↦ omega arith
-      ]
-
-  named_once : (c : ℕ) → c + 1 < length ns → naming ns c ≡ 1
-  named_once c l =
-      let x = s.named c l in
-      naming_one ns x.0 c x.1
-      (let a = names_times c (get_or ns x.0 nd.False) x.2 in let b = apart_times c (get_or ns x.0 nd.False) (s.tree.apart x.0) in omega arith)
-      (λ q q< ne. others_none x.0 c q x.2 ne)
-
-  kept : length es ≤ 64 → Few es ns × Kept rule.Exprs es ns × Kept rule.Nodes es ns × Kept rule.NamedOnce es ns
-  kept few = (
-    (s.some, s.few, few),
+kept : (es : List Expr) (ns : List Node) → Structured es ns → length es ≤ 64 → AllKept (take 4 (rules es ns))
+kept es ns s few = (
+  λ n n<. (few_iff es ns).1 (s.some, s.few, few),
+  (
     s.exprs,
-    λ n n<. node_fits es n (get_or ns n nd.False) (s.tree.lower n) (s.nodes n n<),
-    λ n n<. named_once n,
-  )
+    (
+      λ n n<. node_test es n (entry ns n) (s.tree.lower n) (s.nodes n n<),
+      (λ n n<. (once_iff ns n).1 (λ l. (let x = s.named n l in named_in_tree ns s.tree x.0 n x.1 x.2)), tt),
+    ),
+  ),
+)
 
 -- A table of 64 entries still has 64 after a text was entered.
 still_64 : {text actions features : List ℕ} {k v : ℕ} {fs : List Expr} {ms : List Node} → Tried text actions features 64 64 k v fs ms → k ≡ 0 → length fs ≤ 64

@@ -1,5 +1,5 @@
 -- What the tables that are read stand for, and how they are built.
-use Rattle.std.specs.Prelude.{◌≡◌, ℕ, ◌+◌, ◌-◌, ◌<◌, ◌≤◌, List, length, take, Option, slice_index_or}
+use Rattle.std.specs.Prelude.{◌≡◌, ℕ, ◌+◌, ◌-◌, ◌<◌, ◌≤◌, IsTrue, List, length, take, Option, slice_index_or}
 use Rattle.words.specs.Words.{number}
 use Rattle.formulas.specs.declared.Expr.{Expr}
 use Rattle.formulas.specs.declared.Expr.TheVariants as ex
@@ -9,8 +9,7 @@ use Rattle.formulas.specs.Trees.{Expression, Formula}
 use Rattle.formulas.specs.Tables.{formula_at, Names}
 use Rattle.formulas.specs.Tables as tb
 use Rattle.formulas.specs.Sound.{Carries}
-use Rattle.formulas.specs.Judge.{ExprFitsAt, Few, Kept}
-use Rattle.formulas.specs.Rules as rule
+use Rattle.formulas.specs.Judge.{expr_fits, rules, AllKept}
 use Rattle.grammar.specs.Grammar.{Modality, diamond, box, Fixpoint, least, greatest, Tree, bottom, top, negation, disjunction, conjunction, feature, var, modal, fixpoint}
 use Rattle.reader.specs.Numbering.{or_0}
 use Rattle.reader.specs.Outcome.{Formed, Tried, Reading}
@@ -60,7 +59,7 @@ pub record Stands (text actions features : List ℕ) (es : List Expr) (ns : List
 pub record Structured (es : List Expr) (ns : List Node) : Type 0 where
   pub some : 1 ≤ length ns
   pub few : length ns ≤ 64
-  pub exprs : (n : ℕ) → n < length es → ExprFitsAt n (slice_index_or es n ex.False)
+  pub exprs : (n : ℕ) → n < length es → IsTrue (expr_fits n (slice_index_or es n ex.False))
   pub nodes : (n : ℕ) → n < length ns → Carries es (slice_index_or ns n nd.False)
   pub tree : tb.Tree ns
   pub named : (c : ℕ) → c + 1 < length ns → (n : ℕ) × (n < length ns) × Names c (slice_index_or ns n nd.False)
@@ -69,10 +68,10 @@ pub record Structured (es : List Expr) (ns : List Node) : Type 0 where
 abbrev pub TablesHold : Type 0
 TablesHold = (text actions features : List ℕ) (es : List Expr) (ns : List Node) (v : ℕ) (fs : List Expr) (ms : List Node) → Reading text actions features es ns 0 v fs ms → Stands text actions features fs ms v × Structured fs (take v ms)
 
--- They keep the rules on sizes, expressions, entries and naming, by which tables are judged; what is left are the rules on variables.
+-- They keep the first four rules by which tables are judged: those on sizes, expressions, entries and naming.
 abbrev pub RulesKept : Type 0
-RulesKept = (text actions features : List ℕ) (v : ℕ) (fs : List Expr) (ms : List Node) → Tried text actions features 64 64 0 v fs ms
-    → Few fs (take v ms) × Kept rule.Exprs fs (take v ms) × Kept rule.Nodes fs (take v ms) × Kept rule.NamedOnce fs (take v ms)
+RulesKept = (text actions features : List ℕ) (v : ℕ) (fs : List Expr) (ms : List Node)
+    → Tried text actions features 64 64 0 v fs ms → AllKept (take 4 (rules fs (take v ms)))
 
 -- A text, two word lists and two tables have one answer, with one outcome of the tables.
 abbrev pub OneAnswer : Type 0
