@@ -18,6 +18,10 @@ pub fixpoint_nearest : (t : SoundTables) (n v : ℕ) → entry t.nodes.now n ≡
 fixpoint_nearest t n v is =
     let s = sound_tables t in
     elim (nearest_or_way t.nodes.now v (s.whole n (variable_in t.nodes.now n v is))) [
-      | inl x ↦ (x.1, subst (λ (b : ℕ). Nearest t.nodes.now v b x.1 n) (sym (t.bound n v x.0 x.1 is x.2)) x.2)
+      | inl x ↦ (
+        x.1,
+        subst (λ (b : ℕ). Nearest t.nodes.now v b x.1 n)
+            (sym (t.bound n v x.0 x.1 is x.2)) x.2,
+      )
       | inr w ↦ absurd (s.bound w.0 v n w.1 is)
     ]

@@ -14,7 +14,7 @@ use Rattle.grammar.specs.declared.Level.TheVariants.{Formula as formula, Express
 use Rattle.reader.specs.Numbering.{Tables, note, or_0, last, enter, modal_node, fixpoint_node}
 use Rattle.lexer.specs.Texts.{TokensOf, no_more, one_more}
 use Rattle.formulas.specs.Judge.{expr_fits}
-use Rattle.formulas.proofs.Judging.{expr_test}
+use Rattle.formulas.proofs.Judging.{expr_iff}
 use Rattle.formulas.specs.Sound.{Carries}
 use Rattle.reader_laws.proofs.Extends.{Extends, longer, note_exprs, note_nodes, enter_exprs, enter_some}
 use Rattle.reader_laws.proofs.Forests.{same_nodes}
@@ -111,10 +111,19 @@ ExprFitsAt n (ex.And c d) = (c < n) × (d < n)
 ExprFitsAt n x = Unit {0}
 
 pub fits_test : (n : ℕ) (x : Expr) → ExprFitsAt n x → IsTrue (expr_fits n x)
-fits_test n (ex.Feature k) h = expr_test n (ex.Feature k) (λ c p. absurd p) (λ j e. (let q : k ≡ j = cc in omega arith))
-fits_test n (ex.Not c) h = expr_test n (ex.Not c) (λ d p. omega arith) (λ j e. cc)
-fits_test n (ex.Or c d) h = expr_test n (ex.Or c d) (λ e p. elim p [ inl q ↦ omega (arith, h.0) | inr q ↦ omega (arith, h.1) ]) (λ j e. cc)
-fits_test n (ex.And c d) h = expr_test n (ex.And c d) (λ e p. elim p [ inl q ↦ omega (arith, h.0) | inr q ↦ omega (arith, h.1) ]) (λ j e. cc)
+fits_test n (ex.Feature k) h =
+    (expr_iff n (ex.Feature k)).1 (λ c p. absurd p, λ j e. (let q : k ≡ j = cc in omega arith))
+fits_test n (ex.Not c) h = (expr_iff n (ex.Not c)).1 (λ d p. omega arith, λ j e. cc)
+fits_test n (ex.Or c d) h =
+    (expr_iff n (ex.Or c d)).1 (
+      λ e p. elim p [ inl q ↦ omega (arith, h.0) | inr q ↦ omega (arith, h.1) ],
+      λ j e. cc,
+    )
+fits_test n (ex.And c d) h =
+    (expr_iff n (ex.And c d)).1 (
+      λ e p. elim p [ inl q ↦ omega (arith, h.0) | inr q ↦ omega (arith, h.1) ],
+      λ j e. cc,
+    )
 fits_test n ex.False h = refl
 fits_test n ex.True h = refl
 

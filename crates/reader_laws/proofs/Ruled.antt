@@ -9,18 +9,18 @@ use Rattle.formulas.specs.declared.Node.TheVariants as nd
 use Rattle.formulas.specs.Tables.{entry}
 use Rattle.formulas.specs.Judge.{rules, AllKept}
 use Rattle.formulas.proofs.Naming.{named_in_tree}
-use Rattle.formulas.proofs.Judging.{few_iff, node_test, once_iff}
+use Rattle.formulas.proofs.Judging.{few_iff, node_iff, once_iff}
 use Rattle.reader.specs.Outcome.{numbering, Tried, long_text, no_words, no_token, no_formula, unknown_name, too_many, accepted}
 use Rattle.reader_laws.specs.Results.{Structured, RulesKept}
 use Rattle.reader_laws.proofs.Hold.{tried_hold}
 
 kept : (es : List Expr) (ns : List Node) → Structured es ns → length es ≤ 64 → AllKept (take 4 (rules es ns))
 kept es ns s few = (
-  λ n n<. (few_iff es ns).1 (s.some, s.few, few),
+  λ n n<. (few_iff es ns).1 (s.some, (s.few, few)),
   (
     s.exprs,
     (
-      λ n n<. node_test es n (entry ns n) (s.tree.lower n) (s.nodes n n<),
+      λ n n<. (node_iff es n (entry ns n)).1 (s.tree.lower n, s.nodes n n<),
       (λ n n<. (once_iff ns n).1 (λ l. (let x = s.named n l in named_in_tree ns s.tree x.0 n x.1 x.2)), tt),
     ),
   ),

@@ -1,6 +1,8 @@
--- The rounds of a least or of a greatest fixpoint: how it begins, what lasts, that each round that changes something
+-- The rounds of a least or of a greatest fixpoint: how it begins, what lasts, that each round that changes
+-- something
 -- brings it nearer to its end, and what it ends with.
-use Rattle.std.proofs.Common.{◌≡◌, ℕ, ◌-◌, ◌*◌, ◌<◌, Bool, true, false, T, List, subst, refl, inl, inr, arith}
+use Rattle.std.proofs.Common.{◌≡◌, ℕ, ◌-◌, ◌*◌, ◌<◌, Bool, true, false, T, List, subst, refl, inl, inr}
+use Rattle.std.proofs.Common.{arith}
 use Rattle.families.specs.Families.{Family, count}
 use Rattle.formulas.specs.Trees.{Formula, Odd, occurs}
 use Rattle.formulas.specs.Tables.{as_formula, expression_at, Names, Binds}
@@ -44,7 +46,8 @@ module _ (F : Family) (φ : Formula) (η : Env Pairs) where
   Turns x V W = (v : ℕ) → Binds v x → Means F W φ (put η v V)
 
   pub lasts_first : (x : Node) (V : Pairs) → Even x → Begins F x V → Lasts x V
-  lasts_first (nd.Least v c) V even b = rising_first F φ v (even v refl) η V (λ t q t< q<. bool_false (V t q) (b t q t<).0)
+  lasts_first (nd.Least v c) V even b = rising_first F φ v (even v refl) η V
+      (λ t q t< q<. bool_false (V t q) (b t q t<).0)
   lasts_first (nd.Greatest v c) V even b =
       falling_first F φ v (even v refl) η V (λ t q t< q<. bool_true (V t q) ((b t q t<).1 q<))
   lasts_first x V even b = absurd b
@@ -58,18 +61,27 @@ module _ (F : Family) (φ : Formula) (η : Env Pairs) where
     pub lasts_fewer : (x : Node) → Even x → Turns x V W → Lasts x V → ¬ Same F V W → rank F x W < rank F x V
     lasts_fewer (nd.Least v c) even m i out =
         elim (rising_more F φ v (even v refl) η V W (m v refl) i) [
-          | inl back ↦ absurd (out (λ t q t< q<. (rising_within F φ v (even v refl) η V W (m v refl) i t q t< q<, back t q t< q<)))
+          | inl back ↦ absurd (out (λ t q t< q<. (
+            rising_within F φ v (even v refl) η V W
+                (m v refl) i t q t< q<,
+            back t q t< q<,
+          )))
           | inr lt ↦ omega (arith, total_le F.states (count F) W)
         ]
     lasts_fewer (nd.Greatest v c) even m i out =
         elim (falling_more F φ v (even v refl) η V W (m v refl) i) [
-          | inl on ↦ absurd (out (λ t q t< q<. (on t q t< q<, falling_within F φ v (even v refl) η V W (m v refl) i t q t< q<)))
+          | inl on ↦ absurd (out (λ t q t< q<. (
+            on t q t< q<,
+            falling_within F φ v (even v refl) η V W
+                (m v refl) i t q t< q<,
+          )))
           | inr lt ↦ lt
         ]
     lasts_fewer x even m i out = absurd i
 
 -- At rest it is the meaning of the fixpoint.
-pub lasts_last : (F : Family) (es : List Expr) (part : ℕ → Formula) (η : Env Pairs) (V W : Pairs) (x : Node) (c : ℕ) → Names c x
+pub lasts_last : (F : Family) (es : List Expr) (part : ℕ → Formula) (η : Env Pairs) (V W : Pairs) (x : Node)
+    (c : ℕ) → Names c x
     → Even F (part c) η x → Turns F (part c) η x V W → Lasts F (part c) η x V → Same F V W
     → Means F V (as_formula (expression_at es) part x) η
 lasts_last F es part η V W (nd.Least v d) c nc even m i same =

@@ -10,7 +10,9 @@ pub returns-in-Some : goal.returns-in-Some
 returns-in-Some c =
     let ns = c.args.nodes.now in
     let e : c.any.result ≡ list_any (binds c.in-Some.v) (take c.args.n ns) =
-    any_from_yields_List (binds c.in-Some.v) _ _ c.any.result c.any.ensures.ran (YieldsList-from_slice (take c.args.n ns) c.iter.ensures.rest)
+    any_from_yields_List (binds c.in-Some.v) _ _ c.any.result c.any.ensures.ran
+    (YieldsList-from_slice (take c.args.n ns) c.iter.ensures.rest)
     (λ x b q k. search (rules, tests)) in
     ap not e
-    ∙ sym (ap (λ o. option_map_or (λ v. not (list_any (binds v) (take c.args.n ns))) o true) (sym c.bound_variable.ensures ∙ c.in-Some.is))
+    ∙ sym (ap (λ o. option_map_or (λ v. not (list_any (binds v) (take c.args.n ns))) o true)
+    (sym c.bound_variable.ensures ∙ c.in-Some.is))

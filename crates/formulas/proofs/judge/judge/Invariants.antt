@@ -6,5 +6,6 @@ use Rattle.formulas.proofs.judge.judge.Given as goal
 abbrev pub invariant-loop-rule : goal.invariant-loop-rule
 invariant-loop-rule l = record {
   items : l.rule-items ≡ entry_rules;
-  kept : (j : ℕ) (r : EntryRule) → j < l.rule-index → Kept (entry_rule (get_or entry_rules j r) l.exprs l.nodes);
+  kept : (j : ℕ) (r : EntryRule) → j < l.rule-index
+      → Kept (entry_rule (get_or entry_rules j r) l.exprs l.nodes);
 }
