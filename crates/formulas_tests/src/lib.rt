@@ -148,4 +148,18 @@ mod tests {
         ];
         assert_eq!(rt; judged(&[], &order), (13, 2));
     }
+
+    #[test]
+    fn fixpoints(rt: HostRuntime) {
+        // mu A. nu B. A || B: each variable has the entry of its own fixpoint.
+        let nested = [
+            Node::Variable(0),
+            Node::Variable(1),
+            Node::Or(0, 1),
+            Node::Greatest(1, 2),
+            Node::Least(0, 3),
+        ];
+        let found = judge(&[], &nested).map(|tables| (tables.fixpoints[0], tables.fixpoints[1]));
+        assert_eq!(rt; found, Ok((4, 3)));
+    }
 }
