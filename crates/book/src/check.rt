@@ -1,7 +1,9 @@
 // Checking a closed book.
-ghost use Rattle.std.specs.Prelude.{◌≡◌};
+ghost use Rattle.std.specs.Prelude.{◌≡◌, ℕ, ◌<◌, length};
+ghost use Rattle.product_sets.specs.Kinds.{SetsKept};
 ghost use Rattle.checker.specs.Gathered.{family_of};
 ghost use Rattle.checker.specs.CheckLaw.{CheckLaw};
+ghost use Rattle.checker.specs.Walks.{InRow};
 ghost use Rattle.book.specs.Contents.{closed_contents};
 
 use crate::books::ClosedBook;
@@ -32,8 +34,11 @@ impl ClosedBook {
         kind: &mut K,
         cells: &mut [K::Set],
     ) -> (u8, usize)
-        ensures law { CheckLaw K.means K.places (closed_contents self.now) exprs.now nodes.now kind.old cells.old kind.new cells.new result.0 result.1 }
-        ensures kept { K.means kind.new ≡ K.means kind.old }
+        ensures law { CheckLaw K.means K.places (closed_contents self.now) exprs.now nodes.now kind.old cells.old
+            kind.new cells.new result.0 result.1 }
+        ensures held { result.0 ≡ 0 → (n : ℕ) → n < length nodes.now
+            → InRow (K.holds kind.new) (closed_contents self.now).states cells.new n }
+        ensures kept { SetsKept K.holds K.means kind.old kind.new }
     {
         self.view().check(exprs, nodes, kind, cells)
     }

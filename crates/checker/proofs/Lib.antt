@@ -1,7 +1,9 @@
 pub mod Tables
 pub mod Places
+pub mod Answering
+pub mod Readings
 pub mod Collecting
 pub mod Leading
-pub mod Stages
-pub mod Rounding
-pub mod Answering
+pub mod Walks
+pub mod Rounds
+pub mod Entering

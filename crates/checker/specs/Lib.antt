@@ -1,5 +1,6 @@
+pub mod Readings
 pub mod Steps
-pub mod Gathered
 pub mod Walks
+pub mod Gathered
 pub mod Checks
 pub mod CheckLaw

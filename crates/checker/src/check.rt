@@ -2,13 +2,14 @@
 ghost use Rattle.std.specs.Prelude.{◌≡◌, ℕ, ◌+◌, ◌*◌, ◌<◌, ◌≤◌, Bool, length, IsOk, IfOk, IfErr, slice_get};
 ghost use Rattle.formulas.specs.Tables.{last};
 ghost use Rattle.semantics.specs.Entries.{Filled, no_pairs};
+ghost use Rattle.semantics.specs.Evaluation.{OnlyProducts};
+ghost use Rattle.product_sets.specs.Kinds.{SetsKept};
 ghost use Rattle.checker.specs.Gathered.{family_of};
-ghost use Rattle.checker.specs.Walks.{rows as row_of, OnlyProducts};
+ghost use Rattle.checker.specs.Walks.{rows as row_of, InRow};
 ghost use Rattle.checker.specs.declared.check.Refusal.TheVariants as re;
 ghost use Rattle.checker.specs.Checks.{how_many, refusal_pair, Answered};
 ghost use Rattle.checker.specs.CheckLaw.{CheckLaw};
 
-use crate::gather::fixpoints;
 use crate::view::FamilyView;
 use crate::walk::Walk;
 use families::ACCEPTED;
@@ -85,22 +86,25 @@ impl FamilyView<'_> {
     // Gathers the sets, and fills the rows of all entries.
     fn fill<K: Kind>(&self, tables: &SoundTables<'_>, kind: &mut K, cells: &mut [K::Set])
         requires fits { (length self.now.products.now ≤ K.places) × (length tables.now.nodes.now * self.now.states ≤ length cells.old) }
-        ensures kept { K.means kind.new ≡ K.means kind.old }
-        ensures beyond { (i : ℕ) → length tables.now.nodes.now * self.now.states ≤ i → slice_get cells.new i ≡ slice_get cells.old i }
-        ensures products { (n : ℕ) → n < length tables.now.nodes.now → OnlyProducts (family_of self.now) (row_of (K.means kind.new) self.now.states cells.new n) }
-        ensures filled { Filled (family_of self.now) tables.now.exprs.now tables.now.nodes.now (row_of (K.means kind.new) self.now.states cells.new) no_pairs (last tables.now.nodes.now) }
+        ensures held { (n : ℕ) → n < length tables.now.nodes.now
+            → InRow (K.holds kind.new) self.now.states cells.new n }
+        ensures kept { SetsKept K.holds K.means kind.old kind.new }
+        ensures beyond { (i : ℕ) → length tables.now.nodes.now * self.now.states ≤ i
+            → slice_get cells.new i ≡ slice_get cells.old i }
+        ensures products { (n : ℕ) → n < length tables.now.nodes.now → OnlyProducts (family_of self.now)
+            (row_of (K.means kind.new) self.now.states cells.new n) }
+        ensures filled { Filled (family_of self.now) tables.now.exprs.now tables.now.nodes.now
+            (row_of (K.means kind.new) self.now.states cells.new) no_pairs (last tables.now.nodes.now) }
     {
         let all = first(kind, self.products.len());
         let conditions = self.conditions(all, kind);
         let satisfied = self.satisfied(tables, all, kind);
-        let fixpoints = fixpoints(tables);
         let walk = Walk {
             view: *self,
             tables: *tables,
             all,
             conditions: &conditions,
             satisfied: &satisfied,
-            fixpoints: &fixpoints,
         };
         walk.walk(tables.nodes.len() - 1, kind, cells);
     }
@@ -115,8 +119,11 @@ impl FamilyView<'_> {
         kind: &mut K,
         cells: &mut [K::Set],
     ) -> (u8, usize)
-        ensures law { CheckLaw K.means K.places (family_of self.now) exprs.now nodes.now kind.old cells.old kind.new cells.new result.0 result.1 }
-        ensures kept { K.means kind.new ≡ K.means kind.old }
+        ensures law { CheckLaw K.means K.places (family_of self.now) exprs.now nodes.now kind.old cells.old
+            kind.new cells.new result.0 result.1 }
+        ensures held { result.0 ≡ 0 → (n : ℕ) → n < length nodes.now
+            → InRow (K.holds kind.new) self.now.states cells.new n }
+        ensures kept { SetsKept K.holds K.means kind.old kind.new }
     {
         match self.admitted(exprs, nodes, kind, cells) {
             Err(refusal) => refusal.into(),

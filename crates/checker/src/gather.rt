@@ -1,15 +1,15 @@
 // What a check gathers into sets once, before it walks through the formula.
-ghost use Rattle.std.specs.Prelude.{◌≡◌, ℕ, ◌<◌, ◌≤◌, T, length};
-ghost use Rattle.families.specs.Families.{config};
-ghost use Rattle.formulas.specs.Tables.{expression_at};
-ghost use Rattle.semantics.specs.Satisfies.{satisfies};
-ghost use Rattle.checker.specs.Gathered.{family_of, Collects, Passing, Everyone, Meeting, Satisfying, Found};
+ghost use Rattle.std.specs.Prelude.{ℕ, ◌<◌, ◌≤◌, All, length};
+ghost use Rattle.semantics.specs.Evaluation.{Chosen};
+ghost use Rattle.product_sets.specs.Kinds.{SetsKept};
+ghost use Rattle.checker.specs.Readings.{Reads};
+ghost use Rattle.checker.specs.Gathered.{family_of, Collects, Passing, Everyone, Meeting, Satisfying};
 
 use crate::rows::without;
 use crate::view::FamilyView;
 use families::MAX_TRANSITIONS;
-use formulas::judge::{MAX_ENTRIES, SoundTables, VARIABLES};
-use formulas::{Expr, Node};
+use formulas::Expr;
+use formulas::judge::{MAX_ENTRIES, SoundTables};
 use product_sets::Kind;
 
 impl FamilyView<'_> {
@@ -17,8 +17,10 @@ impl FamilyView<'_> {
     fn products_where<K: Kind, F: Fn(u16) -> bool>(&self, passes: F, kind: &mut K) -> K::Set
         requires callable { F.IsAlwaysCallable passes }
         requires fits { length self.now.products.now ≤ K.places }
-        ensures value { Passing (K.means kind.old) (family_of self.now) result (F.post passes) }
-        ensures kept { K.means kind.new ≡ K.means kind.old }
+        ensures held { K.holds kind.new result }
+        ensures value { Reads K.holds K.means kind.new
+            (λ m. Passing (family_of self.now) (m result) (F.post passes)) }
+        ensures kept { SetsKept K.holds K.means kind.old kind.new }
     {
         let mut set = kind.none();
         for (p, configuration) in self.products.iter().enumerate() {
@@ -36,8 +38,10 @@ impl FamilyView<'_> {
         kind: &mut K,
     ) -> [K::Set; MAX_TRANSITIONS]
         requires fits { length self.now.products.now ≤ K.places }
-        ensures value { Meeting (K.means kind.old) (family_of self.now) result filler }
-        ensures kept { K.means kind.new ≡ K.means kind.old }
+        requires held { K.holds kind.old filler }
+        ensures held { All (K.holds kind.new) result }
+        ensures value { Reads K.holds K.means kind.new (λ m. Meeting m (family_of self.now) result) }
+        ensures kept { SetsKept K.holds K.means kind.old kind.new }
     {
         let mut sets = [filler; MAX_TRANSITIONS];
         // By number: the array has a place for each transition that there may be.
@@ -57,10 +61,14 @@ impl FamilyView<'_> {
         kind: &mut K,
     ) -> K::Set
         requires fits { (length self.now.products.now ≤ K.places) × (n < length tables.now.exprs.now) }
-        requires everyone { Everyone (K.means kind.old) (family_of self.now) all }
-        requires parts { Satisfying (K.means kind.old) (family_of self.now) tables.now.exprs.now sets.now all n }
-        ensures value { Collects (K.means kind.old) (family_of self.now) result (λ p. T (satisfies (config (family_of self.now) p) (expression_at tables.now.exprs.now n))) }
-        ensures kept { K.means kind.new ≡ K.means kind.old }
+        requires held { K.holds kind.old all × All (K.holds kind.old) sets.now }
+        requires everyone { Reads K.holds K.means kind.old (λ m. Everyone (family_of self.now) (m all)) }
+        requires parts { Reads K.holds K.means kind.old
+            (λ m. Satisfying m (family_of self.now) tables.now.exprs.now sets.now n) }
+        ensures held { K.holds kind.new result }
+        ensures value { Reads K.holds K.means kind.new (λ m. Collects (family_of self.now) (m result)
+            (Chosen (family_of self.now) tables.now.exprs.now n)) }
+        ensures kept { SetsKept K.holds K.means kind.old kind.new }
     {
         match tables.exprs[n] {
             Expr::False => kind.none(),
@@ -82,9 +90,12 @@ impl FamilyView<'_> {
         kind: &mut K,
     ) -> [K::Set; MAX_ENTRIES]
         requires fits { length self.now.products.now ≤ K.places }
-        requires everyone { Everyone (K.means kind.old) (family_of self.now) all }
-        ensures value { Satisfying (K.means kind.old) (family_of self.now) tables.now.exprs.now result all (length tables.now.exprs.now) }
-        ensures kept { K.means kind.new ≡ K.means kind.old }
+        requires held { K.holds kind.old all }
+        requires everyone { Reads K.holds K.means kind.old (λ m. Everyone (family_of self.now) (m all)) }
+        ensures held { All (K.holds kind.new) result }
+        ensures value { Reads K.holds K.means kind.new (λ m. Satisfying m (family_of self.now)
+            tables.now.exprs.now result (length tables.now.exprs.now)) }
+        ensures kept { SetsKept K.holds K.means kind.old kind.new }
     {
         let mut sets = [all; MAX_ENTRIES];
         for n in 0..tables.exprs.len() {
@@ -92,17 +103,4 @@ impl FamilyView<'_> {
         }
         sets
     }
-}
-
-// For each variable the entry of its fixpoint.
-pub(crate) fn fixpoints(tables: &SoundTables<'_>) -> [usize; VARIABLES]
-    ensures { Found tables.now.nodes.now result }
-{
-    let mut found = [0; VARIABLES];
-    for (n, node) in tables.nodes.iter().enumerate() {
-        if let Node::Least(v, _) | Node::Greatest(v, _) = *node {
-            found[usize::from(v)] = n;
-        }
-    }
-    found
 }

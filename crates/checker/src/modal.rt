@@ -1,8 +1,14 @@
 // The rows of diamonds and boxes, from the products whose own transitions lead into a row.
-ghost use Rattle.std.specs.Prelude.{◌≡◌, ℕ, ◌+◌, ◌*◌, ◌<◌, ◌≤◌, ◌&&◌, ◌||◌, T, ◌↔◌, length, slice_index_or};
+ghost use Rattle.std.specs.Prelude.{ℕ, ◌+◌, ◌*◌, ◌<◌, ◌≤◌, not, ◌&&◌, ◌||◌, T};
+ghost use Rattle.std.specs.Prelude.{All};
+ghost use Rattle.std.specs.List.{AllWithin};
 ghost use Rattle.families.specs.Families.{count};
-ghost use Rattle.checker.specs.Gathered.{family_of, rows_of, Collects, Everyone, Meeting};
-ghost use Rattle.checker.specs.Walks.{HasRow, OnlyRow, SomeLeads, AllLead};
+ghost use Rattle.semantics.specs.Evaluation.{HoldsWhere, SomeLeads, AllLead};
+ghost use Rattle.product_sets.specs.Cells.{in_cell};
+ghost use Rattle.product_sets.specs.Kinds.{SetsKept};
+ghost use Rattle.checker.specs.Readings.{Reads, Builds};
+ghost use Rattle.checker.specs.Gathered.{family_of, rows_of, Gathered};
+ghost use Rattle.checker.specs.Walks.{HasRow, InRow, WritesRow};
 
 use crate::rows::{without, write_row};
 use crate::walk::Walk;
@@ -11,11 +17,22 @@ use product_sets::Kind;
 
 // A set, and the products that meet a condition and are in the set at the target.
 fn with_led<K: Kind>(kind: &mut K, set: K::Set, condition: K::Set, target: K::Set) -> K::Set
-    ensures value { (p : ℕ) → K.means kind.old result p ≡ (K.means kind.old set p || (K.means kind.old condition p && K.means kind.old target p)) }
-    ensures kept { K.means kind.new ≡ K.means kind.old }
+    ensures { Builds K.holds K.means kind.old kind.new
+        (K.holds kind.old set × K.holds kind.old condition × K.holds kind.old target)
+        (λ m p. m set p || (m condition p && m target p)) result }
 {
     let led = kind.meet(condition, target);
     kind.join(set, led)
+}
+
+// The products that are not in both sets.
+fn without_both<K: Kind>(kind: &mut K, all: K::Set, a: K::Set, b: K::Set) -> K::Set
+    ensures { Builds K.holds K.means kind.old kind.new
+        (K.holds kind.old all × K.holds kind.old a × K.holds kind.old b)
+        (λ m p. m all p && not (m a p && m b p)) result }
+{
+    let both = kind.meet(a, b);
+    without(kind, all, both)
 }
 
 impl<K: Kind> Walk<'_, K> {
@@ -27,9 +44,13 @@ impl<K: Kind> Walk<'_, K> {
         targets: &[K::Set; MAX_STATES],
         kind: &mut K,
     ) -> [K::Set; MAX_STATES]
-        requires meeting { Meeting (K.means kind.old) (family_of self.now.view) self.now.conditions.now self.now.all }
-        ensures value { (s : ℕ) → s < self.now.view.states → Collects (K.means kind.old) (family_of self.now.view) (slice_index_or result s self.now.all) (SomeLeads (family_of self.now.view) action (λ u. K.means kind.old (slice_index_or targets.now u self.now.all)) s) }
-        ensures kept { K.means kind.new ≡ K.means kind.old }
+        requires gathered { Gathered K.holds K.means kind.old self.now }
+        requires held { AllWithin (K.holds kind.old) targets.now 0 self.now.view.states }
+        ensures held { All (K.holds kind.new) result }
+        ensures value { Reads K.holds K.means kind.new (λ m. HoldsWhere (family_of self.now.view) (in_cell m result)
+            (λ s p. (p < count (family_of self.now.view))
+            × SomeLeads (family_of self.now.view) action (in_cell m targets.now) s p)) }
+        ensures kept { SetsKept K.holds K.means kind.old kind.new }
     {
         let mut leading = [kind.none(); MAX_STATES];
         // By number: with `zip` the loop would go by an iterator, and its invariant have to say what that has left.
@@ -53,11 +74,15 @@ impl<K: Kind> Walk<'_, K> {
         kind: &mut K,
         cells: &mut [K::Set],
     )
-        requires meeting { Meeting (K.means kind.old) (family_of self.now.view) self.now.conditions.now self.now.all }
+        requires gathered { Gathered K.holds K.means kind.old self.now }
         requires fits { (HasRow self.now.view.states n cells.old) × (HasRow self.now.view.states c cells.old) }
-        ensures value { (s p : ℕ) → s < self.now.view.states → T (rows_of (K.means kind.old) self.now cells.new n s p) ↔ (T (K.means kind.old chosen p) × ((p < count (family_of self.now.view)) × SomeLeads (family_of self.now.view) action (rows_of (K.means kind.old) self.now cells.old c) s p)) }
-        ensures others { OnlyRow self.now.view.states n cells.old cells.new }
-        ensures kept { K.means kind.new ≡ K.means kind.old }
+        requires chosen { K.holds kind.old chosen }
+        requires held { InRow (K.holds kind.old) self.now.view.states cells.old c }
+        ensures writes { WritesRow K.holds K.means self.now.view.states n kind.old cells.old kind.new cells.new }
+        ensures value { Reads K.holds K.means kind.new
+            (λ m. HoldsWhere (family_of self.now.view) (rows_of m self.now cells.new n)
+            (λ s p. (p < count (family_of self.now.view)) × T (m chosen p)
+            × SomeLeads (family_of self.now.view) action (rows_of m self.now cells.old c) s p)) }
     {
         let targets = self.row(c, cells);
         let from = self.sources(action, &targets, kind);
@@ -82,12 +107,15 @@ impl<K: Kind> Walk<'_, K> {
         kind: &mut K,
         cells: &mut [K::Set],
     )
-        requires everyone { Everyone (K.means kind.old) (family_of self.now.view) self.now.all }
-        requires meeting { Meeting (K.means kind.old) (family_of self.now.view) self.now.conditions.now self.now.all }
+        requires gathered { Gathered K.holds K.means kind.old self.now }
         requires fits { (HasRow self.now.view.states n cells.old) × (HasRow self.now.view.states c cells.old) }
-        ensures value { (s p : ℕ) → s < self.now.view.states → T (rows_of (K.means kind.old) self.now cells.new n s p) ↔ ((p < count (family_of self.now.view)) × (T (K.means kind.old chosen p) → AllLead (family_of self.now.view) action (rows_of (K.means kind.old) self.now cells.old c) s p)) }
-        ensures others { OnlyRow self.now.view.states n cells.old cells.new }
-        ensures kept { K.means kind.new ≡ K.means kind.old }
+        requires chosen { K.holds kind.old chosen }
+        requires held { InRow (K.holds kind.old) self.now.view.states cells.old c }
+        ensures writes { WritesRow K.holds K.means self.now.view.states n kind.old cells.old kind.new cells.new }
+        ensures value { Reads K.holds K.means kind.new
+            (λ m. HoldsWhere (family_of self.now.view) (rows_of m self.now cells.new n)
+            (λ s p. (p < count (family_of self.now.view)) × (T (m chosen p)
+            → AllLead (family_of self.now.view) action (rows_of m self.now cells.old c) s p))) }
     {
         let all = self.all;
         let part = self.row(c, cells);
@@ -96,7 +124,10 @@ impl<K: Kind> Walk<'_, K> {
             &mut outside[..self.view.states],
             &part,
             &part,
-            |kind, inside, _| without(kind, all, inside),
+            |kind, inside, _|
+                ensures { Builds K.holds K.means kind.old kind.new (K.holds kind.old all × K.holds kind.old inside)
+                    (λ m p. m all p && not (m inside p)) result }
+            { without(kind, all, inside) },
             kind,
         );
         let from = self.sources(action, &outside, kind);
@@ -104,10 +135,11 @@ impl<K: Kind> Walk<'_, K> {
             n,
             &from,
             &from,
-            |kind, led, _| {
-                let both = kind.meet(led, chosen);
-                without(kind, all, both)
-            },
+            |kind, led, _|
+                ensures { Builds K.holds K.means kind.old kind.new
+                    (K.holds kind.old all × K.holds kind.old led × K.holds kind.old chosen)
+                    (λ m p. m all p && not (m led p && m chosen p)) result }
+            { without_both(kind, all, led, chosen) },
             kind,
             cells,
         );

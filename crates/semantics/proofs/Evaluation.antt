@@ -1,6 +1,5 @@
 -- Evaluation fills the rows with the meanings: by one walk through a derivation, which carries for each
--- entry what its
--- evaluation comes to.
+-- entry what its evaluation comes to.
 use Rattle.std.proofs.Common.{◌≡◌, ℕ, ◌<◌, Bool, true, false, option_map, T, List, [], ◌∷◌, sym, refl, ◌∙◌}
 use Rattle.std.proofs.Common.{subst, inl, inr, arith}
 use mathlib.Core.Logic.Iff
@@ -323,7 +322,7 @@ module _ (F : Family) (es : List Expr) (ns : List Node) (tree : Tree ns) (balanc
   }
 
   -- A fixpoint begins with products alone, and has a variable and one part.
-  begins_products : (x : Node) (V : Pairs) → Begins F x V → OnlyProducts F V
+  pub begins_products : (x : Node) (V : Pairs) → Begins F x V → OnlyProducts F V
   begins_products (nd.Least v c) V k = λ s p s< t. absurd ((k s p s<).0 t)
   begins_products (nd.Greatest v c) V k = λ s p s< t. (k s p s<).0 t
   begins_products x V k = absurd k

@@ -1,8 +1,7 @@
 -- The rounds of a least or of a greatest fixpoint: how it begins, what lasts, that each round that changes
--- something
--- brings it nearer to its end, and what it ends with.
-use Rattle.std.proofs.Common.{◌≡◌, ℕ, ◌-◌, ◌*◌, ◌<◌, Bool, true, false, T, List, subst, refl, inl, inr}
-use Rattle.std.proofs.Common.{arith}
+-- something brings it nearer to its end, and what it ends with.
+use Rattle.std.proofs.Common.{◌≡◌, ℕ, ◌-◌, ◌*◌, ◌<◌, Bool, true, false, T, List, sym, subst, refl}
+use Rattle.std.proofs.Common.{inl, inr, arith}
 use Rattle.families.specs.Families.{Family, count}
 use Rattle.formulas.specs.Trees.{Formula, Odd, occurs}
 use Rattle.formulas.specs.Tables.{as_formula, expression_at, Names, Binds}
@@ -11,8 +10,8 @@ use Rattle.formulas.specs.declared.Node.{Node}
 use Rattle.formulas.specs.declared.Node.TheVariants as nd
 use Rattle.semantics.specs.Plain.{Env, put}
 use Rattle.semantics.specs.Meaning.{Pairs, Means, Same}
-use Rattle.semantics.specs.Evaluation.{Begins}
-use Rattle.semantics.proofs.Finite.{total, total_le}
+use Rattle.semantics.specs.Evaluation.{SameRow, Begins}
+use Rattle.semantics.proofs.Finite.{total, total_le, total_mono}
 use Rattle.semantics.proofs.Iteration.{Low, High, Backed, Closed}
 use Rattle.semantics.proofs.Rounds.{rising_first, rising_next, rising_within, rising_more, rising_last}
 use Rattle.semantics.proofs.Rounds.{falling_first, falling_next, falling_within, falling_more, falling_last}
@@ -30,6 +29,20 @@ abbrev pub rank : Family → Node → Pairs → ℕ
 rank F (nd.Least v c) V = F.states * count F - total F.states (count F) V
 rank F (nd.Greatest v c) V = total F.states (count F) V
 rank F x V = 0
+
+total_same : (n m : ℕ) (V W : Pairs) → ((t q : ℕ) → t < n → V t q ≡ W t q) → total n m V ≡ total n m W
+total_same n m V W e =
+    let up = total_mono n m V W (λ t q t< q< h. subst T (e t q t<) h) in
+    let down = total_mono n m W V (λ t q t< q< h. subst T (sym (e t q t<)) h) in
+    omega arith
+
+-- The rank goes by what the row holds.
+pub rank_same : (F : Family) (x : Node) (V W : Pairs) → SameRow F V W → rank F x V ≡ rank F x W
+rank_same F (nd.Least v c) V W e =
+    let same = total_same F.states (count F) V W e in
+    omega arith
+rank_same F (nd.Greatest v c) V W e = total_same F.states (count F) V W e
+rank_same F x V W e = refl
 
 module _ (F : Family) (φ : Formula) (η : Env Pairs) where
   -- What lasts from round to round of a fixpoint whose part is φ.

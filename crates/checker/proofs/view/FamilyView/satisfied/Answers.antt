@@ -1,23 +1,37 @@
-use Rattle.std.proofs.Common.{◌≡◌, ℕ, T, length, sym, ◌∙◌, subst, arith}
+use Rattle.std.proofs.Common.{◌≡◌, ℕ, ◌<◌, length, refl, ◌∙◌, subst, arith}
 use Rattle.std.proofs.lemmas.List.{length-set}
-use Rattle.families.specs.Families.{config}
-use Rattle.formulas.specs.Tables.{expression_at}
-use Rattle.semantics.specs.Satisfies.{satisfies}
-use Rattle.checker.specs.Gathered.{family_of, Collects, Everyone, Satisfying}
+use Rattle.std.proofs.lemmas.List.Elements.{All-set, All-replicate}
+use Rattle.semantics.specs.Evaluation.{Chosen}
+use Rattle.product_sets.proofs.Kept.{sets_kept_same, sets_kept_then}
+use Rattle.checker.specs.Gathered.{family_of, Satisfying}
 use Rattle.checker.proofs.Tables.{sound_tables}
+use Rattle.checker.proofs.Readings.{agrees_before, all_later}
 use Rattle.checker.proofs.Collecting.{more_sets}
 use Rattle.checker.proofs.view.FamilyView.satisfied.Goals as goal
 
+pub loop-n-init : goal.loop-n-init
+loop-n-init g c = record {
+  kept = sets_kept_same g.K.Kind.holds g.K.Kind.means c.args.kind.now;
+  long = refl;
+  held = All-replicate (g.K.Kind.holds c.args.kind.now) 64 c.args.all c.requires.held;
+  satisfying = λ m agrees e h. absurd (omega arith);
+}
+
 pub satisfying-requires : goal.satisfying-requires
 satisfying-requires g c =
-    let F = family_of c.args.self.now in
-    let back = sym c.loop-n.invariant.kept in (
+    let holds = g.K.Kind.holds in
+    let means = g.K.Kind.means in
+    let before = c.loop-n.invariant in (
       omega (arith, g.met.K.Kind.roomy),
       (
         (omega arith, omega arith),
         (
-          subst (λ m. Everyone m F c.args.all) back c.requires.everyone,
-          subst (λ m. Satisfying m F c.args.tables.now.exprs.now c.loop-n.sets c.args.all c.loop-n.n) back c.loop-n.invariant.satisfying,
+          ((before.kept c.args.all c.requires.held).0, before.held),
+          (
+            λ m agrees. c.requires.everyone m (agrees_before holds means c.args.kind.now c.loop-n.kind m
+                before.kept agrees),
+            before.satisfying,
+          ),
         ),
       ),
     )
@@ -30,19 +44,27 @@ listed g c = omega (arith, (sound_tables c.args.tables.now).few_expressions)
 
 pub loop-n-preserved : goal.loop-n-preserved
 loop-n-preserved g c =
+    let holds = g.K.Kind.holds in
+    let means = g.K.Kind.means in
     let F = family_of c.args.self.now in
-    let P = λ (e p : ℕ). T (satisfies (config F p) (expression_at c.args.tables.now.exprs.now e)) in
+    let sets = c.loop-n.sets in
+    let made = c.satisfying.ensures in
+    let set = c.satisfying.result in
+    let new = c.satisfying.new.kind in
+    let before = c.loop-n.invariant in
+    let low : c.loop-n.n < length sets = omega (arith, (sound_tables c.args.tables.now).few_expressions) in
     record {
-      kept = c.satisfying.ensures.kept ∙ c.loop-n.invariant.kept;
-      long = length-set c.loop-n.sets c.loop-n.n c.satisfying.result ∙ c.loop-n.invariant.long;
-      satisfying = more_sets (g.K.Kind.means c.args.kind.now) F P c.loop-n.sets c.satisfying.result c.args.all c.loop-n.n (omega (arith, (sound_tables c.args.tables.now).few_expressions)) c.loop-n.invariant.satisfying
-          (subst (λ m. Collects m F c.satisfying.result (P c.loop-n.n)) c.loop-n.invariant.kept c.satisfying.ensures.value);
+      kept = sets_kept_then holds means c.args.kind.now c.loop-n.kind new before.kept made.kept;
+      long = length-set sets c.loop-n.n set ∙ before.long;
+      held = All-set (holds new) sets c.loop-n.n set made.held (all_later holds means c.loop-n.kind new sets
+          made.kept before.held);
+      satisfying = λ m agrees. more_sets F m (Chosen F c.args.tables.now.exprs.now) sets set c.loop-n.n low
+          (before.satisfying m (agrees_before holds means c.loop-n.kind new m made.kept agrees))
+          (made.value m agrees);
     }
 
-pub returns : goal.returns
-returns g c =
+pub returns-clause-value : goal.returns-clause-value
+returns-clause-value g c = λ m agrees.
     let e : c.loop-n.n ≡ length c.args.tables.now.exprs.now = omega arith in
-    record {
-      value = subst (λ (k : ℕ). Satisfying (g.K.Kind.means c.args.kind.now) (family_of c.args.self.now) c.args.tables.now.exprs.now c.loop-n.sets c.args.all k) e c.loop-n.invariant.satisfying;
-      kept = c.loop-n.invariant.kept;
-    }
+    subst (λ (k : ℕ). Satisfying m (family_of c.args.self.now) c.args.tables.now.exprs.now c.loop-n.sets k)
+    e (c.loop-n.invariant.satisfying m agrees)

@@ -6,20 +6,26 @@ use Rattle.report.proofs.session.Session.checked.Goals as goal
 
 pub returns-then-number-ne-ACCEPTED : goal.returns-then-number-ne-ACCEPTED
 returns-then-number-ne-ACCEPTED g c =
-    refused_check (family_of c.args.self.now) c.args.exprs.now c.args.nodes.now c.args.self.now.book.contents.sized.1 g.K.Kind.places c.requires.0
-    g.K.Kind.means c.args.kind.now c.check-number.new.kind c.args.cells.now c.check-number.new.cells c.check-number.result.0 c.check-number.result.1
+    refused_check (family_of c.args.self.now) c.args.exprs.now c.args.nodes.now
+    c.args.self.now.book.contents.sized.1 g.K.Kind.places c.requires.0
+    g.K.Kind.means c.args.kind.now c.check-number.new.kind c.args.cells.now c.check-number.new.cells
+    c.check-number.result.0 c.check-number.result.1
     c.check-number.ensures.law c.requires.1 c.if-number-ne-ACCEPTED.true _
 
 pub overflow_sub-whole : goal.overflow_sub-whole
 overflow_sub-whole g c =
-    (admitted_check (family_of c.args.self.now) c.args.exprs.now c.args.nodes.now c.args.self.now.book.contents.sized.1 g.K.Kind.places c.requires.0
-    g.K.Kind.means c.args.kind.now c.check-number.new.kind c.args.cells.now c.check-number.new.cells c.check-number.result.0 c.check-number.result.1
+    (admitted_check (family_of c.args.self.now) c.args.exprs.now c.args.nodes.now
+    c.args.self.now.book.contents.sized.1 g.K.Kind.places c.requires.0
+    g.K.Kind.means c.args.kind.now c.check-number.new.kind c.args.cells.now c.check-number.new.cells
+    c.check-number.result.0 c.check-number.result.1
     c.check-number.ensures.law c.if-number-ne-ACCEPTED.false).0.some
 
 pub of-requires : goal.of-requires
 of-requires g c =
-    let admitted = admitted_check (family_of c.args.self.now) c.args.exprs.now c.args.nodes.now c.args.self.now.book.contents.sized.1 g.K.Kind.places c.requires.0
-    g.K.Kind.means c.args.kind.now c.check-number.new.kind c.args.cells.now c.check-number.new.cells c.check-number.result.0 c.check-number.result.1
+    let admitted = admitted_check (family_of c.args.self.now) c.args.exprs.now c.args.nodes.now
+    c.args.self.now.book.contents.sized.1 g.K.Kind.places c.requires.0
+    g.K.Kind.means c.args.kind.now c.check-number.new.kind c.args.cells.now c.check-number.new.cells
+    c.check-number.result.0 c.check-number.result.1
     c.check-number.ensures.law c.if-number-ne-ACCEPTED.false in
     subst (λ (n : ℕ). n ≤ 64) (sym (ap length c.products.ensures)) admitted.1
 
@@ -30,8 +36,11 @@ returns g c =
     let cells = c.check-number.new.cells in
     let d = c.index-cells-nodes.result in
     digits_read F c.args.exprs.now ns c.args.self.now.book.contents.sized.1 g.K.Kind.places c.requires.0
-    g.K.Kind.means c.args.kind.now c.check-number.new.kind c.args.cells.now cells c.check-number.result.0 c.check-number.result.1
-    c.check-number.ensures.law c.if-number-ne-ACCEPTED.false c.args.self.now.book.contents.sized.0 (omega arith) d c.of.result.holds c.of.result.count c.of.result.fits
+    g.K.Kind.means c.args.kind.now c.check-number.new.kind c.args.cells.now cells c.check-number.result.0
+    c.check-number.result.1
+    c.check-number.ensures.law c.if-number-ne-ACCEPTED.false c.args.self.now.book.contents.sized.0
+    (omega arith) d c.of.result.holds c.of.result.count c.of.result.fits
     (c.of.ensures.count ∙ ap length c.products.ensures)
     (λ p p<. c.of.ensures.each p (subst (λ (n : ℕ). p < n) (sym (ap length c.products.ensures)) p<)
-    ∙ ap (λ x. g.K.Kind.means c.check-number.new.kind x p) (c.index-cells-nodes.is ∙ ap (λ i. get_or cells (last ns * i) d) c.states.ensures))
+    ∙ ap (λ x. g.K.Kind.means c.check-number.new.kind x p) (c.index-cells-nodes.is ∙ ap
+    (λ i. get_or cells (last ns * i) d) c.states.ensures))
