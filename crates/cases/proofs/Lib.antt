@@ -1,5 +1,4 @@
 pub mod First
-pub mod Rules
 pub mod Judge
 pub mod Reading
 pub mod WordLists
