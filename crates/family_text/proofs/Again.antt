@@ -1,7 +1,7 @@
 -- What is printed is read again.
-use Rattle.std.proofs.Common.{◌≡◌, ◌≢◌, ℕ, zero, suc, ◌+◌, ◌*◌, ◌/◌, ◌%◌, ◌^◌, ◌<◌, ◌≤◌, ◌⊎◌, inl, inr, ⊎_elim, Bool, true, false, not, cond, ltb, eqb, List, [], ◌∷◌, ◌++◌, length, map, filter, take, get_or, codes, Some, bit_or, refl, sym, ap, ◌∙◌, subst, add-one, append_assoc, append-nil, arith}
-use Rattle.std.specs.List.{fold, flat_map, prefix_len, slice_split, before_first, AllByRecursion}
-use Rattle.std.specs.Char.{is_ascii_lowercase, is_ascii_whitespace}
+use Rattle.std.proofs.Common.{◌≡◌, ℕ, zero, suc, ◌+◌, ◌*◌, ◌/◌, ◌%◌, ◌^◌, ◌<◌, ◌≤◌, ◌⊎◌, inl, inr, ⊎_elim, Bool, true, false, not, cond, ltb, eqb, List, [], ◌∷◌, ◌++◌, length, map, filter, take, codes, Some, bit_or, refl, sym, ap, ◌∙◌, subst, append_assoc, append-nil, arith}
+use Rattle.std.specs.List.{prefix_len, slice_split, before_first, AllByRecursion}
+use Rattle.std.specs.Char.{is_ascii_whitespace}
 use Rattle.std.specs.Fmt.{decimal}
 use Rattle.std.proofs.lemmas.Fmt.{decimal_digit}
 use Rattle.std.proofs.lemmas.Nat.{mod-pow-add}
@@ -21,7 +21,7 @@ use Rattle.lexer.specs.Tokens.{Name, in_name}
 use Rattle.words.specs.Words.{number, WordList}
 use Rattle.words.proofs.Numbers.{Numbered, apart_numbered}
 use Rattle.family_text.specs.Words.{Word, word_at, words_of, lines_of}
-use Rattle.family_text.specs.Grammar.{Lists, union, NameSet, IsPart, Spells, Says, Tell, Describes}
+use Rattle.family_text.specs.Grammar.{Lists, union, NameSet, IsPart, Spells, Tell, Describes}
 use Rattle.family_text.specs.Printing.{spaced, one_if, features_below, feature_words, part_words, transition_words, line_for, text_for, Named, IsPrintable}
 use Rattle.family_text.proofs.Laws.{two_digits}
 

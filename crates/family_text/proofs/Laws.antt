@@ -2,8 +2,8 @@
 use Rattle.std.proofs.Common.{IfOk, IfErr, get_or, Bor, ⊎_elim, filter, append_assoc, append-nil}
 use Rattle.std.proofs.lemmas.Bool.{cases_lt}
 use Rattle.std.specs.Char.{is_ascii_whitespace}
-use Rattle.std.proofs.Common.{◌≡◌, ◌≢◌, ℕ, zero, suc, ◌+◌, ◌-◌, ◌*◌, ◌/◌, ◌%◌, ◌^◌, ◌<◌, ◌≤◌, ◌⊎◌, inl, inr, Bool, true, false, not, cond, ◌&&◌, ltb, leb, eqb, List, [], ◌∷◌, ◌++◌, length, take, drop, map, codes, Option, Some, None, Ok, Err, Result, bit_or, refl, sym, ap, ◌∙◌, subst, arith}
-use Rattle.std.specs.List.{fold, prefix_len, AllByRecursion, slice_split, before_first}
+use Rattle.std.proofs.Common.{◌≡◌, ◌≢◌, ℕ, zero, suc, ◌+◌, ◌-◌, ◌*◌, ◌/◌, ◌%◌, ◌^◌, ◌<◌, ◌≤◌, inl, inr, Bool, true, false, not, cond, ◌&&◌, ltb, eqb, List, [], ◌∷◌, ◌++◌, length, take, drop, map, codes, Option, Some, None, Ok, Err, Result, bit_or, refl, sym, ap, ◌∙◌, subst, arith}
+use Rattle.std.specs.List.{AllByRecursion, slice_split, before_first}
 use Rattle.std.specs.Str.{bytes_eq}
 use Rattle.std.specs.Fmt.{decimal}
 use Rattle.std.specs.Int.{is_in_range}
@@ -21,7 +21,8 @@ use Rattle.family_text.specs.declared.errors.ReadError.{ReadError}
 use Rattle.family_text.specs.declared.errors.ReadError.TheVariants.{Line, OutOfMemory}
 use Rattle.family_text.specs.Faults.{IsFirstWrong, IsFault}
 use Rattle.family_text.proofs.Steps.{next_word, texts_more, length_before}
-use Rattle.family_text.specs.Grammar.{Lists, union, NameSet, IsPart, IsCondition, IsState, Spells, said_by, Says, Tell, encoding}
+use Rattle.family_text.specs.Records.{encoding}
+use Rattle.family_text.specs.Grammar.{Lists, union, NameSet, IsPart, IsCondition, IsState, Spells, said_by, Says, Tell}
 use Rattle.family_text.specs.Reading.{◌>>=◌, or_expected, below_64, state_of, action_of, feature_of, features_from, part_of, before_bars, condition_of, transition_of, record_of}
 
 -- ---- steps that may fail

@@ -1,5 +1,5 @@
 -- Word lists that keep their form, as lists of names.
-use Rattle.std.proofs.Common.{◌≡◌, ℕ, ◌<◌, ◌≤◌, List, length, Option, Some, None, IsSome, IfSome, sym, refl, subst, arith}
+use Rattle.std.proofs.Common.{◌≡◌, ℕ, ◌<◌, List, Option, Some, None, IsSome, IfSome, sym, refl, subst, arith}
 use Rattle.words.specs.Words.{InForm, Lines, WordList, number}
 use Rattle.words.specs.Cut.{cut}
 use Rattle.words.proofs.Cut.{in_form, lines, cut_lines, few_lines}

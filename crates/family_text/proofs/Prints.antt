@@ -1,19 +1,22 @@
 -- What is printed, word by word and record by record.
-use Rattle.std.proofs.Common.{◌≡◌, ℕ, zero, suc, ◌+◌, ◌*◌, ◌/◌, take, drop, ◌<◌, ◌≤◌, ◌⊎◌, inl, inr, ⊎_elim, Bool, true, false, List, [], ◌∷◌, ◌++◌, length, map, get_or, slice_get, Option, Some, None, Bor, refl, sym, ap, ◌∙◌, subst, add-one, append_assoc, append-nil, length-append, arith}
+use Rattle.std.proofs.Common.{◌≡◌, ℕ, zero, suc, ◌+◌, ◌*◌, ◌/◌, ◌%◌, take, drop, ◌<◌, ⊎_elim, List, [], ◌∷◌, ◌++◌, length, map, get_or, slice_get, Option, Some, None, Ok, Err, Result, IfOk, Bor, refl, sym, ap, ◌∙◌, subst, add-one, append_assoc, append-nil, length-append, arith}
 use Rattle.std.specs.Option.{option_map, unwrap_or}
-use Rattle.std.specs.List.{flat_map, AllByRecursion}
+use Rattle.std.specs.List.{AllByRecursion}
 use Rattle.std.proofs.lemmas.Option.{unwrap_or-slice_get}
 use Rattle.std.proofs.lemmas.Bool.{cases_lt}
 use Rattle.std.proofs.lemmas.Grind.{flat_map-append}
 use Rattle.families.specs.Bits.{bit}
 use Rattle.book.specs.declared.records.Record.{Record}
 use Rattle.book.specs.Records.{record_in, record_from}
+use Rattle.book.specs.declared.records.Record.TheVariants.{AddProduct, AddTransition}
 use Rattle.std.specs.Simd.{first_chunks}
+use Rattle.std.proofs.Math.Seq.{take-append_seam, drop-append_seam}
 use Rattle.std.proofs.lemmas.List.{drop-drop}
 use Rattle.family_text.specs.declared.errors.Lack.{Lack}
 use Rattle.family_text.specs.Words.{Word, word_at}
 use Rattle.family_text.specs.Grammar.{Lists}
-use Rattle.family_text.specs.Printing.{spaced, one_if, features_below, names_below, line_for, text_for, Begins, IsPrintable, LacksText}
+use Rattle.family_text.specs.Records.{record_bytes, encoding, Begins, Holds}
+use Rattle.family_text.specs.Printing.{spaced, one_if, features_below, names_below, line_for, text_for, LacksText}
 
 -- the name of a number
 name_is : (ws : List Word) (k : ℕ) (o : Option Word) → o ≡ slice_get ws k → unwrap_or o [] ≡ word_at ws k
@@ -84,3 +87,44 @@ chunk_at bs (suc k) (suc i) d h =
 pub record_at : (bs : List ℕ) (rs : List (List ℕ)) (i : ℕ) (d : List ℕ) → rs ≡ first_chunks 8 (length bs / 8) bs → i < length bs / 8
     → record_in (get_or rs i d) ≡ record_from bs i
 record_at bs rs i d e h = ap (λ (l : List (List ℕ)). record_in (get_or l i d)) e ∙ ap record_in (chunk_at bs (length bs / 8) i d h)
+
+-- records as bytes hold these records
+front : (xs ys : List ℕ) → length xs ≡ 8 → take 8 (xs ++ ys) ≡ xs
+front xs ys e = ap (λ n. take n (xs ++ ys)) (sym e) ∙ take-append_seam xs ys
+
+eight : (r : Record) → length (record_bytes r) ≡ 8
+eight (AddProduct c) = refl
+eight (AddTransition t) = refl
+
+bytes_back : (n : ℕ) → n % 256 + 256 * (n / 256) ≡ n
+bytes_back n = omega arith
+
+same_record : (r : Record) → record_in (record_bytes r) ≡ Some r
+same_record (AddProduct c) = ap (λ n. Some (AddProduct n)) (bytes_back c)
+same_record (AddTransition t) =
+    ap (λ n. Some (AddTransition (record { source = t.source; action = t.action; target = t.target; required = n; excluded = t.excluded % 256 + 256 * (t.excluded / 256) }))) (bytes_back t.required)
+    ∙ ap (λ n. Some (AddTransition (record { source = t.source; action = t.action; target = t.target; required = t.required; excluded = n }))) (bytes_back t.excluded)
+
+length_encoding : (rs : List Record) → length (encoding rs) ≡ 8 * length rs
+length_encoding [] = refl
+length_encoding (r ∷ rs) = omega (arith, length-append (record_bytes r) (encoding rs), eight r, length_encoding rs)
+
+begins_encoding : (rs : List Record) (i : ℕ) → i < length rs → record_from (encoding rs) i ≡ slice_get rs i
+begins_encoding [] i lt = absurd (omega arith)
+begins_encoding (r ∷ rs) zero lt = ap record_in (front (record_bytes r) (encoding rs) (eight r)) ∙ same_record r
+begins_encoding (r ∷ rs) (suc i) lt =
+    let n : 8 * suc i ≡ 8 + 8 * i = omega arith in
+    let e : drop (8 * suc i) (encoding (r ∷ rs)) ≡ drop (8 * i) (encoding rs) =
+    ap (λ k. drop k (encoding (r ∷ rs))) n ∙ sym (drop-drop (8 * i) 8 (encoding (r ∷ rs)) ∙ ap (λ k. drop k (encoding (r ∷ rs))) (omega arith)) ∙ ap (drop (8 * i)) (passed r) in
+    ap (λ bs. record_in (take 8 bs)) e ∙ begins_encoding rs i (omega arith)
+  where
+    passed : (r : Record) → drop 8 (record_bytes r ++ encoding rs) ≡ encoding rs
+    passed r = ap (λ k. drop k (record_bytes r ++ encoding rs)) (sym (eight r)) ∙ drop-append_seam (record_bytes r) (encoding rs)
+
+pub holds_encoding : (rs : List Record) → Holds (encoding rs) rs
+holds_encoding rs = (length_encoding rs, begins_encoding rs)
+
+pub held : {V E : Type 0} (items : V → List ℕ) (r : Result V E) {Told : List Record → Type 0} → ((said : List Record) → Told said → IfOk r (λ v. items v ≡ encoding said))
+    → IfOk r (λ v. (said : List Record) → Told said → Holds (items v) said)
+held items (Ok v) f = λ said told. subst (λ bs. Holds bs said) (sym (f said told)) (holds_encoding said)
+held items (Err e) f = tt

@@ -1,8 +1,7 @@
 -- One step of reading.
-use Rattle.std.proofs.Common.{◌≡◌, ℕ, zero, suc, ◌+◌, ◌<◌, Bool, true, false, not, cond, List, [], ◌∷◌, ◌++◌, length, get_or, take, drop, Ok, Err, Result, bit_or, Bor, refl, sym, ap, ◌∙◌, subst, add-one, arith, codes}
+use Rattle.std.proofs.Common.{◌≡◌, ℕ, zero, suc, ◌+◌, ◌<◌, Bool, cond, List, [], ◌∷◌, ◌++◌, length, get_or, take, drop, Ok, Err, Result, bit_or, Bor, refl, sym, ap, ◌∙◌, add-one, arith, codes}
 use Rattle.std.proofs.Math.Seq.{drop-cons}
 use Rattle.std.specs.List.{prefix_len, drop-map, take-map}
-use Rattle.std.specs.Str.{bytes_eq}
 use Rattle.family_text.specs.declared.errors.Expected.{Expected}
 use Rattle.family_text.specs.Words.{Word, texts}
 use Rattle.family_text.specs.Grammar.{Lists}

@@ -1,7 +1,6 @@
 -- The grammar of a family's text: what a line may say, and what it says.
-use Rattle.std.specs.Prelude.{◌≡◌, ◌≢◌, ℕ, ◌+◌, ◌^◌, ◌<◌, ◌⊎◌, List, [], ◌∷◌, ◌++◌, length, codes, drop}
+use Rattle.std.specs.Prelude.{◌≡◌, ◌≢◌, ℕ, ◌^◌, ◌<◌, ◌⊎◌, List, [], ◌∷◌, ◌++◌, codes}
 use Rattle.std.specs.Prelude.{Option, Some, None, IsSome, bit_or, map, fold}
-use Rattle.std.specs.List.{flat_map}
 use Rattle.std.specs.Fmt.{decimal}
 use Rattle.book.specs.declared.records.Record.{Record}
 use Rattle.book.specs.declared.records.Record.TheVariants.{AddProduct, AddTransition}
@@ -10,7 +9,6 @@ use Rattle.words.specs.Cut.{cut}
 use Rattle.family_text.specs.declared.vocabulary.Vocabulary.{Vocabulary}
 use Rattle.family_text.specs.declared.vocabulary.ListError.{ListError}
 use Rattle.family_text.specs.declared.vocabulary.ListError.TheVariants.{Actions, Features, Reserved}
-use Rattle.family_text.specs.Records.{record_bytes}
 use Rattle.family_text.specs.Words.{Word, words_of, lines_of}
 
 -- The names of actions and of features; name k of a list is that of number k.
@@ -83,7 +81,3 @@ Tell names (line ∷ lines) records =
 -- A text says these records.
 abbrev pub Describes : Lists → List ℕ → List Record → Type 0
 Describes names text records = Tell names (lines_of text) records
-
--- What a text gives: eight bytes for each record that it says.
-abbrev pub encoding : List Record → List ℕ
-encoding records = flat_map record_bytes records

@@ -1,6 +1,6 @@
 -- Records as text: each has a line, and reading the lines gives the records again.
-use Rattle.std.specs.Prelude.{◌≡◌, ◌≢◌, ℕ, zero, suc, ◌*◌, ◌/◌, ◌%◌, ◌^◌, ◌<◌, ◌≤◌, ◌==◌, Bool, true, if◌then◌else◌, ◌⊎◌}
-use Rattle.std.specs.Prelude.{List, [], ◌∷◌, ◌++◌, length, map, codes, slice_get, Option, Some, None}
+use Rattle.std.specs.Prelude.{◌≡◌, ◌≢◌, ℕ, zero, suc, ◌/◌, ◌%◌, ◌^◌, ◌<◌, ◌≤◌, ◌==◌, Bool, true, if◌then◌else◌, ◌⊎◌}
+use Rattle.std.specs.Prelude.{List, [], ◌∷◌, ◌++◌, length, map, codes, Option, Some, None}
 use Rattle.std.specs.List.{flat_map, AllByRecursion}
 use Rattle.std.specs.Fmt.{decimal}
 use Rattle.families.specs.Bits.{bit}
@@ -12,6 +12,7 @@ use Rattle.family_text.specs.declared.errors.Lack.{Lack}
 use Rattle.family_text.specs.declared.errors.Lack.TheVariants.{Kind, State, ActionName, FeatureName}
 use Rattle.family_text.specs.declared.errors.PrintError.{PrintError}
 use Rattle.family_text.specs.declared.errors.PrintError.TheVariants.{Length, Record as BadRecord, OutOfMemory}
+use Rattle.family_text.specs.Records.{Begins, Holds}
 use Rattle.family_text.specs.Words.{Word, word_at}
 use Rattle.family_text.specs.Grammar.{Lists}
 
@@ -72,14 +73,6 @@ Lacks names (AddProduct configuration) e = Unnamed names configuration e
 Lacks names (AddTransition t) e =
     ((e ≡ State t.source) × (64 ≤ t.source)) ⊎ ((e ≡ ActionName t.action) × (length names.actions ≤ t.action))
     ⊎ ((e ≡ State t.target) × (64 ≤ t.target)) ⊎ Unnamed names t.required e ⊎ Unnamed names t.excluded e
-
--- The first records of bytes ask for these.
-abbrev pub Begins : List ℕ → List Record → Type 0
-Begins bytes records = (i : ℕ) → i < length records → record_from bytes i ≡ slice_get records i
-
--- The records of bytes ask for these, no more and no fewer.
-abbrev pub Holds : List ℕ → List Record → Type 0
-Holds bytes records = (length bytes ≡ 8 * length records) × Begins bytes records
 
 -- A text is that of the records of bytes, each of which can be printed.
 abbrev pub Prints : Lists → List ℕ → List ℕ → Type 0

@@ -3,7 +3,8 @@ ghost use Rattle.std.specs.Prelude.{◌≡◌, ◌++◌, List, IfOk, IfErr, OnOk
 ghost use Rattle.book.specs.declared.records.Record.{Record as Entry};
 ghost use Rattle.family_text.specs.declared.errors.ReadError.TheVariants.{OutOfMemory};
 ghost use Rattle.family_text.specs.Words.{texts, lines_of, words_of};
-ghost use Rattle.family_text.specs.Grammar.{vocabulary, said_by, Tell, Describes, encoding};
+ghost use Rattle.family_text.specs.Records.{encoding, Holds};
+ghost use Rattle.family_text.specs.Grammar.{vocabulary, said_by, Tell, Describes};
 ghost use Rattle.family_text.specs.Reading.{record_of};
 ghost use Rattle.family_text.specs.Faults.{IsFault};
 
@@ -61,6 +62,7 @@ pub fn read(alloc: Global, names: &Vocabulary, text: &[u8]) -> Result<Vec<u8>, R
         (said : List Entry) × Describes (vocabulary names.now) text.now said × (bytes.items ≡ encoding said)) }
     ensures only { (said : List Entry) → Describes (vocabulary names.now) text.now said →
         IfErr result (λ e. e ≡ OutOfMemory) × IfOk result (λ bytes. bytes.items ≡ encoding said) }
+    ensures records { IfOk result (λ bytes. (said : List Entry) → Describes (vocabulary names.now) text.now said → Holds bytes.items said) }
     ensures fault { IfErr result (IsFault (vocabulary names.now) (lines_of text.now)) }
 {
     let lines = lines(alloc, text)?;

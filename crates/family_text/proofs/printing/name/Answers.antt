@@ -1,4 +1,3 @@
-use Rattle.std.proofs.Common.{Some, None, ap, sym, ◌∙◌}
 use Rattle.words.specs.Cut.{cut}
 use Rattle.family_text.proofs.Prints.{named_word, unnamed_word}
 use Rattle.family_text.proofs.printing.name.Goals as goal

@@ -1,4 +1,4 @@
-use Rattle.std.proofs.Common.{◌≡◌, ◌/◌, length, ◌+◌, ◌∷◌, [], ◌++◌, Some, ap, sym, subst, ◌∙◌, arith}
+use Rattle.std.proofs.Common.{◌≡◌, ◌/◌, length, ◌+◌, ◌∷◌, [], ◌++◌, ap, sym, subst, ◌∙◌, arith}
 use Rattle.family_text.specs.Grammar.{vocabulary, Describes}
 use Rattle.family_text.specs.Printing.{IsPrintable}
 use Rattle.family_text.proofs.Lists.{listed}

@@ -2,7 +2,8 @@ use Rattle.std.proofs.Common.{◌≡◌, List, length}
 use Rattle.std.specs.List.{AllByRecursion}
 use Rattle.book.specs.declared.records.Record.{Record}
 use Rattle.family_text.specs.Grammar.{vocabulary}
-use Rattle.family_text.specs.Printing.{Begins, IsPrintable, text_for}
+use Rattle.family_text.specs.Records.{Begins}
+use Rattle.family_text.specs.Printing.{IsPrintable, text_for}
 use Rattle.family_text.proofs.printing.print.Given as goal
 
 abbrev pub invariant-loop-number : goal.invariant-loop-number

@@ -1,8 +1,7 @@
-use Rattle.std.proofs.Common.{◌≡◌, ◌++◌, List, ap, sym, ◌∙◌}
+use Rattle.std.proofs.Common.{◌++◌, ap, sym, ◌∙◌}
 use Rattle.std.proofs.lemmas.Grind.{flat_map-append}
-use Rattle.book.specs.declared.records.Record.{Record}
-use Rattle.family_text.specs.Records.{record_bytes}
-use Rattle.family_text.specs.Grammar.{vocabulary, said_by, encoding}
+use Rattle.family_text.specs.Records.{record_bytes, encoding}
+use Rattle.family_text.specs.Grammar.{vocabulary, said_by}
 use Rattle.family_text.proofs.Laws.{next_line, first_wrong}
 use Rattle.family_text.proofs.reading.read_lines.Goals as goal
 

@@ -1,7 +1,8 @@
 use Rattle.std.proofs.Common.{◌≡◌, List, take}
 use Rattle.book.specs.declared.records.Record.{Record}
 use Rattle.family_text.specs.Words.{texts}
-use Rattle.family_text.specs.Grammar.{vocabulary, Tell, encoding}
+use Rattle.family_text.specs.Records.{encoding}
+use Rattle.family_text.specs.Grammar.{vocabulary, Tell}
 use Rattle.family_text.proofs.reading.read_lines.Given as goal
 
 abbrev pub invariant-loop-i : goal.invariant-loop-i

@@ -1,4 +1,3 @@
-use Rattle.std.proofs.Common.{sym, ◌∙◌, rules}
 use Rattle.words.specs.Cut.{cut}
 use Rattle.family_text.proofs.Lists.{cut_into, below_limit}
 use Rattle.family_text.proofs.vocabulary.number.Goals as goal

@@ -1,4 +1,4 @@
-use Rattle.std.proofs.Common.{Err, take, drop, codes, sym, ap, ◌∙◌}
+use Rattle.std.proofs.Common.{Err, codes, sym, ap, ◌∙◌}
 use Rattle.std.proofs.lemmas.Result.{err_from_is_err_and}
 use Rattle.family_text.specs.Words.{texts}
 use Rattle.family_text.specs.Grammar.{vocabulary}

@@ -1,4 +1,4 @@
-use Rattle.std.proofs.Common.{◌++◌, ap, sym, ◌∙◌, append-nil, append_assoc}
+use Rattle.std.proofs.Common.{sym, append-nil}
 use Rattle.family_text.specs.Grammar.{vocabulary}
 use Rattle.family_text.specs.Printing.{features_below}
 use Rattle.family_text.proofs.Prints.{one_more}
