@@ -15,8 +15,8 @@ pub enum Moment {
     Wrote(Vec<u8>),
 }
 
-/// Gives its bytes in pieces of at most `most`, and takes all that is written. Without memory for a moment all are
-/// forgotten.
+/// Gives its bytes in pieces of at most `most`, and takes all that is written. Without memory for a moment
+/// all are forgotten.
 #[derive(Drop)]
 pub struct Recorder<'a> {
     pub alloc: Global,
