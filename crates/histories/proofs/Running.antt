@@ -28,10 +28,10 @@ on_err (Ok x) P p = tt
 on_err (Err e) P p = p
 
 -- Without a book nothing is run.
-pub front_none : {K S X E : Type 0} (means : K → S → ℕ → Bool) (places states : ℕ) (k : K) (xs : List S)
-    (calls : List Call) (r : Result X E) → OnErr r (RunsFront means places states k xs calls k xs)
-front_none means places states k xs calls r =
-    on_err r (RunsFront means places states k xs calls k xs) (0, none)
+pub front_none : {K S X E : Type 0} (holds : K → S → Type 0) (means : K → S → ℕ → Bool) (places states : ℕ)
+    (k : K) (xs : List S) (calls : List Call) (r : Result X E) → OnErr r (RunsFront holds means places states k xs calls k xs)
+front_none holds means places states k xs calls r =
+    on_err r (RunsFront holds means places states k xs calls k xs) (0, none)
 
 -- Call i of a history, in the standing there.
 module _ (states : ℕ) (calls : List Call) (i : ℕ) (d : Call) (i< : i < length calls)
@@ -60,20 +60,21 @@ module _ (states : ℕ) (calls : List Call) (i : ℕ) (d : Call) (i< : i < lengt
       let end : P (length replies) reply = subst (λ (j : ℕ). P j reply) (sym many) here in
       each_pushed replies reply P (λ j y is_y b is_b. each j b y is_b is_y) end k r is_r c is_c
 
-  module _ {K S : Type 0} (means : K → S → ℕ → Bool) (places : ℕ) (k k' k'' : K) (xs xs' xs'' : List S)
-      (run : Runs means places states k xs (take i calls) k' xs')
-      (leaves : Leaves means places s call_i k' xs' k'' xs'') where
+  module _ {K S : Type 0} (holds : K → S → Type 0) (means : K → S → ℕ → Bool) (places : ℕ) (k k' k'' : K)
+      (xs xs' xs'' : List S)
+      (run : Runs holds means places states k xs (take i calls) k' xs')
+      (leaves : Leaves holds means places s call_i k' xs' k'' xs'') where
     -- the run with it,
-    pub runs_more : Runs means places states k xs (take (i + 1) calls) k'' xs''
+    pub runs_more : Runs holds means places states k xs (take (i + 1) calls) k'' xs''
     runs_more =
-        let left = subst (λ (x : Standing). Leaves means places x call_i k' xs' k'' xs'') at leaves in
-        subst (λ (cs : List Call). Runs means places states k xs cs k'' xs'') (sym (take_more calls i d i<))
+        let left = subst (λ (x : Standing). Leaves holds means places x call_i k' xs' k'' xs'') at leaves in
+        subst (λ (cs : List Call). Runs holds means places states k xs cs k'' xs'') (sym (take_more calls i d i<))
         (more call_i run left)
 
     -- and what is left if memory ends there.
     pub front_more : {X E : Type 0} (r : Result X E)
-        → OnErr r (RunsFront means places states k xs calls k'' xs'')
-    front_more r = on_err r (RunsFront means places states k xs calls k'' xs'') (i + 1, runs_more)
+        → OnErr r (RunsFront holds means places states k xs calls k'' xs'')
+    front_more r = on_err r (RunsFront holds means places states k xs calls k'' xs'') (i + 1, runs_more)
 
 -- The table of a reply to a check is plain checking.
 table_is_plain : {places cells : ℕ} (F : Family) (es : List Expr) (ns : List Node) (t : Table) (r : Reply)

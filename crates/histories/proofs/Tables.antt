@@ -16,7 +16,8 @@ use Rattle.formulas.specs.declared.Node.{Node}
 use Rattle.semantics.specs.Entries.{Filled, no_pairs}
 use Rattle.semantics.proofs.Entries.{entries_hold}
 use Rattle.product_sets.specs.Cells.{in_cell}
-use Rattle.checker.specs.Walks.{rows, OnlyProducts}
+use Rattle.semantics.specs.Evaluation.{OnlyProducts}
+use Rattle.checker.specs.Walks.{rows}
 use Rattle.checker.specs.Checks.{how_many, Answered, refused_tables, too_many_products, too_few_cells}
 use Rattle.checker.specs.Checks as check
 use Rattle.checker.specs.CheckLaw.{CheckLaw}

@@ -52,7 +52,7 @@ fn check<K: Kind>(
 ) -> Result<Reply, AllocError>
     ensures reply { IfOk result (λ reply. IsReplyToCheck K.places (length cells.old)
         (closed_contents book.now) exprs.now nodes.now reply) }
-    ensures left { CheckLeaves K.means K.places
+    ensures left { CheckLeaves K.holds K.means K.places
         (closed_contents book.now) exprs.now nodes.now kind.old cells.old kind.new cells.new }
 {
     let (number, value) = book.check(exprs, nodes, kind, cells);
@@ -76,7 +76,7 @@ impl Phase {
             standing_of after.0 ≡ next_standing (standing_of self) call.now) }
         ensures reply { IfOk result (λ after. IsReply K.places (length cells.old)
             (standing_of self) call.now after.1) }
-        ensures left { Leaves K.means K.places
+        ensures left { Leaves K.holds K.means K.places
             (standing_of self) call.now kind.old cells.old kind.new cells.new }
     {
         match self {

@@ -22,9 +22,9 @@ pub fn run<'c, 'b, K: Kind>(
     ensures same { IfOk result (λ log. log.history ≡ history.entry) }
     ensures law { IfOk result (λ log. HistoryLaw K.places (length cells.old)
         history.entry.states history.entry.calls.now log.opening log.replies.items) }
-    ensures left { IfOk result (λ _. Runs K.means K.places
+    ensures left { IfOk result (λ _. Runs K.holds K.means K.places
         history.entry.states kind.old cells.old history.entry.calls.now kind.new cells.new) }
-    ensures failed { OnErr result (RunsFront K.means K.places
+    ensures failed { OnErr result (RunsFront K.holds K.means K.places
         history.entry.states kind.old cells.old history.entry.calls.now kind.new cells.new) }
 {
     let (opening, book) = OpenBook::open(alloc, history.states)?;

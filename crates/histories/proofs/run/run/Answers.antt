@@ -18,7 +18,7 @@ open_with ledger = record { is_open = true; ledger = ledger }
 
 pub returns-in_err-opening-clause-failed : goal.returns-in_err-opening-clause-failed
 returns-in_err-opening-clause-failed g c =
-    front_none g.K.Kind.means g.K.Kind.places c.args.history.states c.args.kind.now c.args.cells.now
+    front_none g.K.Kind.holds g.K.Kind.means g.K.Kind.places c.args.history.states c.args.kind.now c.args.cells.now
     c.args.history.calls.now c.from_residual.result
 
 pub loop-call-init : goal.loop-call-init
@@ -36,7 +36,7 @@ pub returns-in_err-next-clause-failed : goal.returns-in_err-next-clause-failed
 returns-in_err-next-clause-failed g c =
     let before = c.loop-call.invariant in
     front_more c.args.history.states c.args.history.calls.now c.loop-call.call-index (AddProduct 0)
-    (omega arith) _ before.standing g.K.Kind.means g.K.Kind.places _ _ _ _ _ _ before.runs
+    (omega arith) _ before.standing g.K.Kind.holds g.K.Kind.means g.K.Kind.places _ _ _ _ _ _ before.runs
     c.in_err-next.ensures.left
     c.from_residual-in_err-next.result
 
@@ -44,7 +44,7 @@ pub returns-in_err-push-clause-failed : goal.returns-in_err-push-clause-failed
 returns-in_err-push-clause-failed g c =
     let before = c.loop-call.invariant in
     front_more c.args.history.states c.args.history.calls.now c.loop-call.call-index (AddProduct 0)
-    (omega arith) _ before.standing g.K.Kind.means g.K.Kind.places _ _ _ _ _ _ before.runs
+    (omega arith) _ before.standing g.K.Kind.holds g.K.Kind.means g.K.Kind.places _ _ _ _ _ _ before.runs
     c.in_ok-next.ensures.left
     c.from_residual-in_err-push.result
 
@@ -69,7 +69,7 @@ loop-call-preserved g c =
       each = subst (λ (n : ℕ). AreReplies N n states calls c.push.new.self.items) (sym c.after.auto.cells)
           (subst (λ (rs : List Reply). AreReplies N room states calls rs) (sym pushed) each);
       runs = runs_more states calls i (AddProduct 0) (omega arith) _ before.standing
-          g.K.Kind.means N _ _ _ _ _ _ before.runs next.left;
+          g.K.Kind.holds g.K.Kind.means N _ _ _ _ _ _ before.runs next.left;
     }
 
 pub invariant_of-result : goal.invariant_of-result

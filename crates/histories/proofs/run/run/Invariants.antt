@@ -10,6 +10,6 @@ invariant-loop-call g l = record {
   standing : standing_of l.phase ≡ standing_at l.history.states l.history.calls.now l.call-index;
   whole : length l.replies.items ≡ l.call-index;
   each : AreReplies g.K.Kind.places (length l.cells) l.history.states l.history.calls.now l.replies.items;
-  runs : Runs g.K.Kind.means g.K.Kind.places l.history.states l.fn.kind l.fn.cells
+  runs : Runs g.K.Kind.holds g.K.Kind.means g.K.Kind.places l.history.states l.fn.kind l.fn.cells
       (take l.call-index l.history.calls.now) l.kind l.cells;
 }
