@@ -9,6 +9,8 @@ use files::bytes_or_none;
 use std::io::Read;
 use std::{env, fs};
 
+const USAGE: &str = "usage: family read <family.txt, or family print";
+
 // The family's file.
 const FAMILY: &str = "family.bin";
 
@@ -35,7 +37,7 @@ fn run(rt: &HostRuntime, command: &str) -> anyhow::Result<()> {
     match command {
         "read" => enter(rt, &names)?,
         "print" => {}
-        _ => bail!("usage: family read <family.txt, or family print"),
+        _ => bail!("no such command; {USAGE}"),
     }
     show(rt, &names)
 }
@@ -43,6 +45,6 @@ fn run(rt: &HostRuntime, command: &str) -> anyhow::Result<()> {
 fn main(rt: HostRuntime) -> anyhow::Result<()> {
     match env::args(&rt)?.nth(1) {
         Some(command) => run(&rt, command.as_str()),
-        None => bail!("usage: family read <family.txt, or family print"),
+        None => Ok(rt.println(USAGE)?),
     }
 }
