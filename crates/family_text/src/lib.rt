@@ -6,8 +6,8 @@ mod line;
 mod printing;
 mod reading;
 mod records;
+mod splitting;
 mod vocabulary;
-mod words;
 
 pub use errors::{Expected, Lack, PrintError, ReadError};
 pub use printing::print;

@@ -10,8 +10,8 @@ ghost use Rattle.family_text.specs.Faults.{IsFault};
 
 use crate::errors::{Expected, ReadError};
 use crate::records::bytes;
+use crate::splitting::{lines, words};
 use crate::vocabulary::Vocabulary;
-use crate::words::{lines, words};
 use book::records::Record;
 use std::alloc::{AllocError, Global};
 

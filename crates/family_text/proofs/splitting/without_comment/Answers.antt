@@ -3,7 +3,7 @@ use Rattle.std.proofs.lemmas.List.Folds.{length-prefix_len}
 use Rattle.std.proofs.lemmas.Iterator.{YieldsList-from_slice}
 use Rattle.std.proofs.lemmas.Iterator.Consumers.{YieldsList-at, count_from_yields_List}
 use Rattle.std.proofs.lemmas.Iterator.Search.{YieldsList-from_take_while}
-use Rattle.family_text.proofs.words.without_comment.Goals as goal
+use Rattle.family_text.proofs.splitting.without_comment.Goals as goal
 
 pub returns : goal.returns
 returns c =

@@ -1,7 +1,7 @@
 use Rattle.std.proofs.Common.{rules, tests, ◌∙◌}
 use Rattle.std.proofs.lemmas.Iterator.Consumers.{map_from_collect, YieldsList-at, YieldsList-from_filter}
 use Rattle.std.proofs.lemmas.Iterator.Splits.{YieldsList-from_slice_split}
-use Rattle.family_text.proofs.words.words.Goals as goal
+use Rattle.family_text.proofs.splitting.words.Goals as goal
 
 pub returns : goal.returns
 returns c =
