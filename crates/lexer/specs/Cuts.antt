@@ -19,14 +19,14 @@ pub data Seen : Type 0 where
 
 -- What a token is, and where it stands.
 abbrev pub sym_of : Token → Sym
-sym_of (tk.Name bs p) = name bs.now
-sym_of (tk.Variable v p) = variable v
-sym_of (tk.Sign s p) = sign s
+sym_of (tk.Name p bs) = name bs.now
+sym_of (tk.Variable p v) = variable v
+sym_of (tk.Sign p s) = sign s
 
 abbrev pub place_of : Token → ℕ
-place_of (tk.Name bs p) = p
-place_of (tk.Variable v p) = p
-place_of (tk.Sign s p) = p
+place_of (tk.Name p bs) = p
+place_of (tk.Variable p v) = p
+place_of (tk.Sign p s) = p
 
 abbrev pub tok_of : Token → Tok
 tok_of t = tok (sym_of t) (place_of t)

@@ -33,12 +33,13 @@ pub enum Sign {
 }
 
 /// A token with its place, which is that of its first byte in the text. A name is the part of the text
-/// that spells it; a variable (the makers' letter) is numbered 0 to 25 for A to Z.
+/// that spells it; a variable (the makers' letter) is numbered 0 to 25 for A to Z. Two bytes hold any place,
+/// and standing first they keep a token within 24 bytes.
 #[derive(Clone, Copy)]
 pub enum Token<'t> {
-    Sign(Sign, usize),
-    Variable(u8, usize),
-    Name(&'t [u8], usize),
+    Sign(u16, Sign),
+    Variable(u16, u8),
+    Name(u16, &'t [u8]),
 }
 
 impl<'t> Token<'t> {
@@ -47,7 +48,9 @@ impl<'t> Token<'t> {
         ensures { result ≡ place_of self.entry }
     {
         match self {
-            Token::Name(_, place) | Token::Variable(_, place) | Token::Sign(_, place) => place,
+            Token::Name(place, _) | Token::Variable(place, _) | Token::Sign(place, _) => {
+                usize::from(place)
+            }
         }
     }
 }
@@ -90,15 +93,15 @@ fn past_name(text: &[u8], from: usize) -> usize
 }
 
 // A run of small letters and digits as a token: one of the four words, or a name.
-fn word(bytes: &[u8], place: usize) -> Token<'_>
+fn word(bytes: &[u8], place: u16) -> Token<'_>
     ensures { tok_of result ≡ tok (word_of bytes.now) place }
 {
     match bytes {
-        b"mu" => Token::Sign(Sign::Mu, place),
-        b"nu" => Token::Sign(Sign::Nu, place),
-        b"true" => Token::Sign(Sign::True, place),
-        b"false" => Token::Sign(Sign::False, place),
-        _ => Token::Name(bytes, place),
+        b"mu" => Token::Sign(place, Sign::Mu),
+        b"nu" => Token::Sign(place, Sign::Nu),
+        b"true" => Token::Sign(place, Sign::True),
+        b"false" => Token::Sign(place, Sign::False),
+        _ => Token::Name(place, bytes),
     }
 }
 
@@ -118,31 +121,33 @@ struct Found<'t> {
 
 // The longest token at a place where a byte stands.
 fn first_token(text: &[u8], at: usize) -> Result<Option<Found<'_>>, NoToken>
-    requires { at < length text.now }
+    requires { (at < length text.now) × (length text.now ≤ 1024) }
     ensures value { seen result ≡ first_at text.now at }
     ensures onward { IfOk result (λ next. IfSome next (Onward at (length text.now))) }
 {
     let next = byte_at(text, at + 1) as char;
+    // Nothing is lost, since a text is short.
+    let place = at as u16;
     let (token, end) = match text[at] as char {
         'a'..='z' => {
             let end = past_name(text, at);
             if end - at > LONGEST_NAME {
                 return Err(NoToken(at));
             }
-            (word(&text[at..end], at), end)
+            (word(&text[at..end], place), end)
         }
-        'A'..='Z' => (Token::Variable(text[at] - b'A', at), at + 1),
-        '&' if next == '&' => (Token::Sign(Sign::And, at), at + 2),
-        '|' if next == '|' => (Token::Sign(Sign::Or, at), at + 2),
-        '|' => (Token::Sign(Sign::Bar, at), at + 1),
-        '!' => (Token::Sign(Sign::Not, at), at + 1),
-        '<' => (Token::Sign(Sign::Less, at), at + 1),
-        '>' => (Token::Sign(Sign::Greater, at), at + 1),
-        '[' => (Token::Sign(Sign::LeftBracket, at), at + 1),
-        ']' => (Token::Sign(Sign::RightBracket, at), at + 1),
-        '(' => (Token::Sign(Sign::Open, at), at + 1),
-        ')' => (Token::Sign(Sign::Close, at), at + 1),
-        '.' => (Token::Sign(Sign::Dot, at), at + 1),
+        'A'..='Z' => (Token::Variable(place, text[at] - b'A'), at + 1),
+        '&' if next == '&' => (Token::Sign(place, Sign::And), at + 2),
+        '|' if next == '|' => (Token::Sign(place, Sign::Or), at + 2),
+        '|' => (Token::Sign(place, Sign::Bar), at + 1),
+        '!' => (Token::Sign(place, Sign::Not), at + 1),
+        '<' => (Token::Sign(place, Sign::Less), at + 1),
+        '>' => (Token::Sign(place, Sign::Greater), at + 1),
+        '[' => (Token::Sign(place, Sign::LeftBracket), at + 1),
+        ']' => (Token::Sign(place, Sign::RightBracket), at + 1),
+        '(' => (Token::Sign(place, Sign::Open), at + 1),
+        ')' => (Token::Sign(place, Sign::Close), at + 1),
+        '.' => (Token::Sign(place, Sign::Dot), at + 1),
         _ => return Err(NoToken(at)),
     };
     Ok(Some(Found { token, end }))
@@ -150,6 +155,7 @@ fn first_token(text: &[u8], at: usize) -> Result<Option<Found<'_>>, NoToken>
 
 // The token that comes next from a place on, with spaces skipped, if the text does not end there.
 fn next_token(text: &[u8], from: usize) -> Result<Option<Found<'_>>, NoToken>
+    requires { length text.now ≤ 1024 }
     ensures longest { Lawful text.now from (seen result) }
     ensures onward { IfOk result (λ next. IfSome next (Onward from (length text.now))) }
 {

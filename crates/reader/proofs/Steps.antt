@@ -82,9 +82,9 @@ pub takes_as : {a b : Reader} {t u : Token} → t ≡ u → Takes (sym_of t) (pl
     (place_of u) a b
 takes_as {a} {b} e h = subst (λ t. Takes (sym_of t) (place_of t) a b) e h
 
-pub takes_sign : {a b : Reader} {t : Token} {s o : Sign} {p : ℕ} → t ≡ tk.Sign s p → s ≡ o → Takes
+pub takes_sign : {a b : Reader} {t : Token} {s o : Sign} {p : ℕ} → t ≡ tk.Sign p s → s ≡ o → Takes
     (sym_of t) (place_of t) a b → Takes (sign o) p a b
-takes_sign {p = p} e i h = takes_as (e ∙ ap (λ s. tk.Sign s p) i) h
+takes_sign {p = p} e i h = takes_as (e ∙ ap (λ s. tk.Sign p s) i) h
 
 -- a token that is this sign
 pub as_sign : {a b : Reader} (o : Sign) (t : Token) → sym_of t ≡ sign o → Takes (sym_of t) (place_of t) a b
@@ -96,17 +96,17 @@ pub expect_stops : (m : Inner) (s : Sym) (p : ℕ) → (s ≡ sign (sign_of m) �
 expect_stops m s p e k ps = ap (λ b. after (cond b (take [] []) stop) k ps dead) (not_sign (sign_of m) s e)
 
 -- tokens that are no variable, or no name
-pub no_variable : (t : Token) → ((v p : ℕ) → t ≡ tk.Variable v p → ⊥) → (k : List Item) (ps : List Part) →
+pub no_variable : (t : Token) → ((p v : ℕ) → t ≡ tk.Variable p v → ⊥) → (k : List Item) (ps : List Part) →
     step (a_variable ∷ k) ps (sym_of t) (place_of t) ≡ dead
-no_variable (tk.Name w q) h k ps = refl
-no_variable (tk.Variable v q) h k ps = absurd (h v q refl)
-no_variable (tk.Sign s q) h k ps = refl
+no_variable (tk.Name q w) h k ps = refl
+no_variable (tk.Variable q v) h k ps = absurd (h q v refl)
+no_variable (tk.Sign q s) h k ps = refl
 
-pub no_name : (t : Token) → ((w : Bor (List ℕ)) (q : ℕ) → t ≡ tk.Name w q → ⊥) → (k : List Item)
+pub no_name : (t : Token) → ((q : ℕ) (w : Bor (List ℕ)) → t ≡ tk.Name q w → ⊥) → (k : List Item)
     (ps : List Part) → step (an_action ∷ k) ps (sym_of t) (place_of t) ≡ dead
-no_name (tk.Name w q) h k ps = absurd (h w q refl)
-no_name (tk.Variable v q) h k ps = refl
-no_name (tk.Sign s q) h k ps = refl
+no_name (tk.Name q w) h k ps = absurd (h q w refl)
+no_name (tk.Variable q v) h k ps = refl
+no_name (tk.Sign q s) h k ps = refl
 
 -- what begins no unit of a level
 pub stop_name : (l : Level) → (l ≡ expression → ⊥) → (w : List ℕ) (p : ℕ) (k : List Item) (ps : List Part) →

@@ -41,7 +41,7 @@ fn attempt(
         return Err(Refusal::WordList);
     };
     // What is zero throughout needs no loop to fill the table.
-    let mut table = [Token::Sign(Sign::Mu, 0); LONGEST_TEXT];
+    let mut table = [Token::Sign(0, Sign::Mu); LONGEST_TEXT];
     let count = text.tokens(&mut table)?;
     parse(&table[..count], text.len(), names, exprs, nodes)
 }

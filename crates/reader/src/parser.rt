@@ -100,7 +100,7 @@ impl<'k, 't, 'w, 'x, 'e, 'y, 'n> Reader<'k, 't, 'w, 'x, 'e, 'y, 'n> {
 
     // The number that a name was found to have; if it has none, the name's place is noted, and 0 will
     // do in an entry of a text that is refused.
-    fn number(&mut self, found: Option<u8>, place: usize) -> u8
+    fn number(&mut self, found: Option<u8>, place: u16) -> u8
         ensures keeps { Keeps self.old self.new }
         ensures same_tables { (self.new.nodes ≡ self.old.nodes) × (self.new.exprs ≡ self.old.exprs) }
         ensures notes { Notes found place self.old self.new }
@@ -109,14 +109,14 @@ impl<'k, 't, 'w, 'x, 'e, 'y, 'n> Reader<'k, 't, 'w, 'x, 'e, 'y, 'n> {
         match found {
             Some(number) => number,
             None => {
-                self.unknown = self.unknown.or(Some(place));
+                self.unknown = self.unknown.or(Some(usize::from(place)));
                 0
             }
         }
     }
 
     // Enters a feature's name, which is a unit of expressions alone.
-    fn feature(&mut self, level: Level, name: &[u8], place: usize) -> Result<usize, Offence>
+    fn feature(&mut self, level: Level, name: &[u8], place: u16) -> Result<usize, Offence>
         requires { Inside self.old }
         ensures keeps { Keeps self.old self.new }
         ensures grows { Grows self.old self.new }
@@ -186,7 +186,7 @@ impl<'k, 't, 'w, 'x, 'e, 'y, 'n> Reader<'k, 't, 'w, 'x, 'e, 'y, 'n> {
             (λ o. Stuck (a_variable ∷ []) self.old o.0) }
     {
         let token = self.take()?;
-        let Token::Variable(v, _place) = token else {
+        let Token::Variable(_place, v) = token else {
             return Err(Offence(token.place()));
         };
         Ok(v)
@@ -199,7 +199,7 @@ impl<'k, 't, 'w, 'x, 'e, 'y, 'n> Reader<'k, 't, 'w, 'x, 'e, 'y, 'n> {
             (λ o. Stuck (an_action ∷ []) self.old o.0) }
     {
         let token = self.take()?;
-        let Token::Name(name, place) = token else {
+        let Token::Name(place, name) = token else {
             return Err(Offence(token.place()));
         };
         let found = self.names.actions.number(name);
@@ -260,12 +260,12 @@ impl<'k, 't, 'w, 'x, 'e, 'y, 'n> Reader<'k, 't, 'w, 'x, 'e, 'y, 'n> {
     {
         let token = self.take()?;
         match token {
-            Token::Name(name, place) => self.feature(level, name, place),
-            Token::Variable(v, place) => {
+            Token::Name(place, name) => self.feature(level, name, place),
+            Token::Variable(place, v) => {
                 only_at(Level::Formula, level, place)?;
                 Ok(self.enter_node(Node::Variable(v)))
             }
-            Token::Sign(sign, place) => match sign {
+            Token::Sign(place, sign) => match sign {
                 Sign::True => Ok(self.enter(level, Node::True)),
                 Sign::False => Ok(self.enter(level, Node::False)),
                 Sign::Not => {
@@ -292,7 +292,7 @@ impl<'k, 't, 'w, 'x, 'e, 'y, 'n> Reader<'k, 't, 'w, 'x, 'e, 'y, 'n> {
                     let body = self.phrase(level)?;
                     Ok(self.enter_node(fixpoint_node(sign, v, body)))
                 }
-                _ => Err(Offence(place)),
+                _ => Err(Offence(usize::from(place))),
             },
         }
     }
@@ -338,17 +338,17 @@ impl<'k, 't, 'w, 'x, 'e, 'y, 'n> Reader<'k, 't, 'w, 'x, 'e, 'y, 'n> {
 fn is_sign(token: Token, wanted: Sign) -> bool
     ensures { IsTrue result ↔ (sym_of token.entry ≡ sign wanted) }
 {
-    matches!(token, Token::Sign(sign, _) if sign == wanted)
+    matches!(token, Token::Sign(_, sign) if sign == wanted)
 }
 
 // Refuses a token that begins units of one level alone, at the other.
-fn only_at(wanted: Level, level: Level, place: usize) -> Result<(), Offence>
+fn only_at(wanted: Level, level: Level, place: u16) -> Result<(), Offence>
     ensures { MatchResult result (λ _. level ≡ wanted) (λ p. (level ≢ wanted) × (p.0 ≡ place)) }
 {
     if level == wanted {
         Ok(())
     } else {
-        Err(Offence(place))
+        Err(Offence(usize::from(place)))
     }
 }
 

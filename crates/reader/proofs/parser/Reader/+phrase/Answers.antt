@@ -160,4 +160,6 @@ unit-returns-in_ok-body-in-Mu-clause-reads t c =
 pub unit-returns-in_default-clause-reads : goal.unit-returns-in_default-clause-reads
 unit-returns-in_default-clause-reads t c =
     let s = stop_sign c.args.level c.in-Sign.sign c.in-Sign.place c.in_default.not-True c.in_default.not-False c.in_default.not-Not c.in_default.not-Open c.in_default.not-Less c.in_default.not-LeftBracket c.in_default.not-Mu c.in_default.not-Nu in
-    stuck_token (unit c.args.level) c.args.self.now c.take.new.self (sign c.in-Sign.sign) c.in-Sign.place (takes_as c.in-Sign.is c.in_ok-token.ensures.takes) s
+    subst (Stuck (unit c.args.level ∷ []) c.args.self.now) (sym c.from.ensures)
+    (stuck_token (unit c.args.level) c.args.self.now c.take.new.self (sign c.in-Sign.sign) c.in-Sign.place
+    (takes_as c.in-Sign.is c.in_ok-token.ensures.takes) s)
