@@ -8,18 +8,11 @@
 use families::Transition;
 use formulas::{Expr, Node};
 use histories::calls::{Call, History};
-use histories::columns::Column;
-use histories::log::{Log, Reply};
-use histories::run::run;
-use product_sets::{Kind, Mask, Range};
+use order_report::orders::orders_text;
 
 const STATES: usize = 4;
 
-const PRODUCTS: usize = 4;
-
 const ENTRIES: usize = 16;
-
-const CELLS: usize = ENTRIES * STATES;
 
 // Every history is ten additions, a call of its own, a closing and the check.
 const CALLS: usize = 13;
@@ -81,80 +74,17 @@ fn rule() -> [Node; ENTRIES] {
     ]
 }
 
-// What the check of a run was told, and the row of the whole formula: a digit for each product, 1 where the
-// formula holds in the state.
-fn print_check(rt: &HostRuntime, log: &Log<'_, '_>) -> anyhow::Result<()> {
-    let table = match log.replies.get(CHECK) {
-        Some(Reply::Checked(value, table)) => {
-            println!(rt; "  {value} products keep the rule in state 0")?;
-            table
-        }
-        Some(Reply::Answer(number, value)) => {
-            println!(rt; "  refused {number} {value}")?;
-            return Ok(());
-        }
-        _ => return Ok(()),
-    };
-    for state in 0..STATES {
-        print!(rt; "  state {state}: ")?;
-        for product in 0..PRODUCTS {
-            let holds = table.holds(ENTRIES - 1, state, product);
-            print!(rt; "{}", u8::from(holds))?;
-        }
-        println!(rt)?;
-    }
-    Ok(())
-}
-
-// Runs a history with a kind of product set.
-fn print_run<'c, 'b, K: Kind>(
-    rt: &HostRuntime,
-    title: &str,
-    calls: &'c [Call<'b>],
-    kind: &mut K,
-) -> anyhow::Result<Log<'c, 'b>> {
-    let mut cells = [kind.none(); CELLS];
-    let history = History {
+fn history<'c, 'b>(calls: &'c [Call<'b>]) -> History<'c, 'b> {
+    History {
         states: STATES,
         calls,
-    };
-    let log = run(rt.alloc(), history, kind, &mut cells)?;
-    println!(rt; "{title}")?;
-    print_check(rt, &log)?;
-    Ok(log)
-}
-
-// The columns of each product in the checks of two runs, compared.
-fn print_comparison(
-    rt: &HostRuntime,
-    log: &Log<'_, '_>,
-    given: &Log<'_, '_>,
-) -> anyhow::Result<()> {
-    println!(rt; "compared with the given order")?;
-    for product in 0..PRODUCTS {
-        let column = Column {
-            log,
-            position: CHECK,
-            product,
-        };
-        let as_given = Column {
-            log: given,
-            position: CHECK,
-            product,
-        };
-        let found = match column.equals(&as_given) {
-            Some(true) => "the same column",
-            Some(false) => "another column",
-            None => "not comparable",
-        };
-        println!(rt; "  product {product}: {found}")?;
     }
-    Ok(())
 }
 
 fn main(rt: HostRuntime) -> anyhow::Result<()> {
     let exprs = [Expr::True];
     let nodes = rule();
+    let check = Call::Check(&exprs, &nodes);
     let given: [Call; CALLS] = [
         Call::AddProduct(1),
         Call::AddProduct(2),
@@ -168,7 +98,7 @@ fn main(rt: HostRuntime) -> anyhow::Result<()> {
         step(3, CUT, 0, 0),
         Call::Strike(transition(0, FILL, 0, 0)),
         Call::Close,
-        Call::Check(&exprs, &nodes),
+        check,
     ];
     let sorted: [Call; CALLS] = [
         Call::AddProduct(1),
@@ -183,29 +113,18 @@ fn main(rt: HostRuntime) -> anyhow::Result<()> {
         step(2, CUT, 0, 2),
         Call::Close,
         Call::Close,
-        Call::Check(&exprs, &nodes),
+        check,
     ];
     let mut lost = given;
     lost[10] = Call::Strike(transition(1, RENNET, 2, 2));
-    println!(rt; "rule: no cut follows the rennet directly")?;
-    let first = print_run(
-        &rt,
-        "transitions in the given order, with the mask kind",
-        &given,
-        &mut Mask,
+    let text = orders_text(
+        rt.alloc(),
+        "no cut follows the rennet directly",
+        history(&given),
+        history(&sorted),
+        history(&lost),
+        CHECK,
     )?;
-    let second = print_run(
-        &rt,
-        "transitions sorted by their condition, with the range kind",
-        &sorted,
-        &mut Range,
-    )?;
-    print_comparison(&rt, &second, &first)?;
-    let third = print_run(
-        &rt,
-        "the third transition lost, with the range kind",
-        &lost,
-        &mut Range,
-    )?;
-    print_comparison(&rt, &third, &first)
+    rt.print(text)?;
+    Ok(())
 }
