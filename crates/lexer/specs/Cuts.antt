@@ -32,13 +32,20 @@ abbrev pub tok_of : Token → Tok
 tok_of t = tok (sym_of t) (place_of t)
 
 abbrev pub seen : Result (Option Found) NoToken → Seen
-seen (Ok (Some f)) = found (sym_of f.token) (place_of f.token) f.end
+seen (Ok (Some f)) = found (sym_of f.token) f.start f.end
 seen (Ok None) = end
 seen (Err e) = bad e.0
 
--- A token that is asked for at a place ends past it and within the n bytes.
-abbrev pub Onward : ℕ → ℕ → Found → Type 0
-Onward i n f = (i < f.end) × (f.end ≤ n)
+-- A token has its place, if two bytes hold that.
+abbrev pub Placed : Token → ℕ → Type 0
+Placed t p = p < 65536 → place_of t ≡ p
+
+-- A token starts no sooner than asked for, has a byte and ends within the n bytes; a bad place is no sooner
+-- either, and that of a byte.
+abbrev pub Onward : Result (Option Found) NoToken → ℕ → ℕ → Type 0
+Onward (Ok (Some f)) i n = (i ≤ f.start) × (f.start < f.end) × (f.end ≤ n) × Placed f.token f.start
+Onward (Ok None) i n = Unit {0}
+Onward (Err e) i n = (i ≤ e.0) × (e.0 < n)
 
 abbrev pub space : ℕ → Bool
 space b = b == 32

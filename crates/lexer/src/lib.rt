@@ -3,9 +3,9 @@
 
 mod tokens;
 
-ghost use Rattle.std.specs.Prelude.{◌≡◌, ℕ, ◌+◌, ◌<◌, ◌≤◌, ◌↔◌, IsTrue, IfOk, IfSome, length, drop, slice_index};
+ghost use Rattle.std.specs.Prelude.{◌≡◌, ℕ, ◌+◌, ◌<◌, ◌≤◌, ◌↔◌, IsTrue, length, drop, slice_index};
 ghost use Rattle.lexer.specs.Tokens.{Name, NoWord, in_name, tok};
-ghost use Rattle.lexer.specs.Cuts.{after_spaces, after_name, word_of, tok_of, place_of, seen, first_at, Onward, Lawful};
+ghost use Rattle.lexer.specs.Cuts.{after_spaces, after_name, word_of, tok_of, place_of, seen, first_at, cut_at, Onward, Lawful};
 
 pub use tokens::{LONGEST_TEXT, Text};
 
@@ -33,8 +33,9 @@ pub enum Sign {
 }
 
 /// A token with its place, which is that of its first byte in the text. A name is the part of the text
-/// that spells it; a variable (the makers' letter) is numbered 0 to 25 for A to Z. Two bytes hold any place,
-/// and standing first they keep a token within 24 bytes.
+/// that spells it; a variable (the makers' letter) is numbered 0 to 25 for A to Z. Two bytes hold any place
+/// of a `Text`, and standing first they keep a token within 24 bytes; in a longer text `Found` has the
+/// place.
 #[derive(Clone, Copy)]
 pub enum Token<'t> {
     Sign(u16, Sign),
@@ -43,7 +44,7 @@ pub enum Token<'t> {
 }
 
 impl<'t> Token<'t> {
-    /// The place of the token's first byte.
+    /// The place of the token's first byte, where that is below 65,536.
     pub fn place(self) -> usize
         ensures { result ≡ place_of self.entry }
     {
@@ -112,22 +113,24 @@ fn byte_at(text: &[u8], at: usize) -> u8
     text.get(at).copied().unwrap_or(0)
 }
 
-// A token that was found, and the place where the text goes on.
+/// A token that was found, the place of its first byte, and the place where the text goes on. In a text
+/// of more than 65,536 bytes `start` is what to go by: the token's own place is exact below 65,536 only.
 #[derive(Clone, Copy)]
-struct Found<'t> {
-    token: Token<'t>,
-    end: usize,
+pub struct Found<'t> {
+    pub token: Token<'t>,
+    pub start: usize,
+    pub end: usize,
 }
 
 // The longest token at a place where a byte stands.
 fn first_token(text: &[u8], at: usize) -> Result<Option<Found<'_>>, NoToken>
-    requires { (at < length text.now) × (length text.now ≤ 1024) }
+    requires { at < length text.now }
     ensures value { seen result ≡ first_at text.now at }
-    ensures onward { IfOk result (λ next. IfSome next (Onward at (length text.now))) }
+    ensures onward { Onward result at (length text.now) }
 {
     let next = byte_at(text, at + 1) as char;
-    // Nothing is lost, since a text is short.
-    let place = at as u16;
+    // The low two bytes of the place: all of it in a `Text`.
+    let place = (at % 65_536) as u16;
     let (token, end) = match text[at] as char {
         'a'..='z' => {
             let end = past_name(text, at);
@@ -150,14 +153,19 @@ fn first_token(text: &[u8], at: usize) -> Result<Option<Found<'_>>, NoToken>
         '.' => (Token::Sign(place, Sign::Dot), at + 1),
         _ => return Err(NoToken(at)),
     };
-    Ok(Some(Found { token, end }))
+    Ok(Some(Found {
+        token,
+        start: at,
+        end,
+    }))
 }
 
-// The token that comes next from a place on, with spaces skipped, if the text does not end there.
-fn next_token(text: &[u8], from: usize) -> Result<Option<Found<'_>>, NoToken>
-    requires { length text.now ≤ 1024 }
+/// The token that comes next from a place on, with spaces skipped, if the text does not end there; or
+/// the place where none begins. The text may have any length, and the place may be any.
+pub fn next_token(text: &[u8], from: usize) -> Result<Option<Found<'_>>, NoToken>
     ensures longest { Lawful text.now from (seen result) }
-    ensures onward { IfOk result (λ next. IfSome next (Onward from (length text.now))) }
+    ensures value { seen result ≡ cut_at text.now from }
+    ensures onward { Onward result from (length text.now) }
 {
     let at = past_spaces(text, from);
     if at < text.len() {
