@@ -4,6 +4,7 @@
 #[cfg(test)]
 mod tests {
     use formulas::{Expr, Node};
+    use lexer::{Found, NoToken, Token, next_token};
     use reader::{Refusal, Vocabulary, read, read_with};
     use words::lookup;
 
@@ -147,6 +148,52 @@ mod tests {
         deep[73] = b'>';
         deep[74] = b'X';
         assert!(rt; answers(&deep[0..75], 25, 0));
+    }
+
+    // The next token in a text of 70,000 bytes: from its midst, in the midst of a name, and at its end.
+    #[test]
+    fn long_text(rt: HostRuntime) {
+        let mut text = [b' '; 70_000];
+        text[2000] = b'c';
+        text[2001] = b'u';
+        text[2002] = b't';
+        text[3000] = b'#';
+        text[69_990] = b'X';
+        assert!(rt;
+            matches!(
+                next_token(&text, 1500),
+                Ok(Some(Found {
+                    token: Token::Name(2000, b"cut"),
+                    start: 2000,
+                    end: 2003
+                }))
+            )
+        );
+        assert!(rt;
+            matches!(
+                next_token(&text, 2001),
+                Ok(Some(Found {
+                    token: Token::Name(2001, b"ut"),
+                    start: 2001,
+                    end: 2003
+                }))
+            )
+        );
+        assert!(rt; matches!(next_token(&text, 2003), Err(NoToken(3000))));
+        assert!(rt;
+            matches!(
+                next_token(&text, 3001),
+                Ok(Some(Found {
+                    token: Token::Variable(_, 23),
+                    start: 69_990,
+                    end: 69_991
+                }))
+            )
+        );
+        assert!(rt;
+            matches!(next_token(&text, 69_991), Ok(None))
+                && matches!(next_token(&text, 80_000), Ok(None))
+        );
     }
 
     // Names in lists that keep their form, and in others.
