@@ -55,7 +55,7 @@ fn find(list: &[u8], name: &[u8]) -> Option<usize>
 pub fn keeps_form(list: &[u8], limit: u8) -> bool
     ensures { T result ↔ InForm limit list.now }
 {
-    is_ended(list) && is_short(list, limit) && has_names(list) && is_apart(list)
+    is_ended(list) && lists_names(list, limit)
 }
 
 // Whether each line is ended by byte 10.
@@ -65,24 +65,13 @@ fn is_ended(list: &[u8]) -> bool
     list.last().is_none_or(|b| *b == b'\n')
 }
 
-// Whether there are at most `limit` lines.
-fn is_short(list: &[u8], limit: u8) -> bool
-    ensures { T result ↔ (length (cut list.now) ≤ limit) }
+// Whether the lines are names, none twice, at most `limit` of them. The walk ends at the first that
+// may not stand there.
+fn lists_names(list: &[u8], limit: u8) -> bool
+    ensures { T result ↔ ((length (cut list.now) ≤ limit) × AllByRecursion Name (cut list.now)
+        × Apart (cut list.now)) }
 {
-    Lines::of(list).nth(usize::from(limit)).is_none()
-}
-
-fn has_names(list: &[u8]) -> bool
-    ensures { T result ↔ AllByRecursion Name (cut list.now) }
-{
-    Lines::of(list).all(is_name)
-}
-
-// Whether no line stands twice.
-fn is_apart(list: &[u8]) -> bool
-    ensures { T result ↔ Apart (cut list.now) }
-{
-    Lines::of(list)
-        .enumerate()
-        .all(|(k, line)| find(list, line) == Some(k))
+    Lines::of(list).enumerate().all(|(k, line)| k < usize::from(limit)
+        && is_name(line)
+        && find(list, line) == Some(k))
 }
