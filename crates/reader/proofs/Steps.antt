@@ -3,7 +3,7 @@ use Rattle.std.proofs.Common.{◌≡◌, ℕ, cond, List, [], ◌∷◌, ◌++�
 use Rattle.lexer.specs.Tokens.{Sym, name, variable, sign, tok}
 use Rattle.lexer.specs.Cuts.{sym_of, place_of}
 use Rattle.lexer.specs.declared.Sign.{Sign}
-use Rattle.lexer.specs.declared.Sign.TheVariants.{Mu, Nu, True, False, Not, And, Or, Bar, Less, Greater, LeftBracket, RightBracket, Open, Close, Dot}
+use Rattle.lexer.specs.declared.Sign.TheVariants.{Mu, Nu, True, False, Not, Less, LeftBracket, Open}
 use Rattle.lexer.specs.declared.Token.{Token}
 use Rattle.lexer.specs.declared.Token.TheVariants as tk
 use Rattle.std.specs.Borrow.{Bor}
