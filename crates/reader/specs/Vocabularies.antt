@@ -12,3 +12,7 @@ abbrev pub Knows : List ℕ → List ℕ → Option Vocabulary → Type 0
 Knows actions features names =
     MatchOption names (Worded actions features → ⊥)
     (λ v. Worded actions features × (v.actions.list.now ≡ actions) × (v.features.list.now ≡ features))
+
+-- Whoever is asked for the names gives those of two word lists, or none.
+abbrev pub Gives : List ℕ → List ℕ → (Option Vocabulary → Type 0) → Type 0
+Gives actions features given = (names : Option Vocabulary) → given names → Knows actions features names

@@ -7,9 +7,9 @@ mod refusals;
 mod tables;
 mod vocabulary;
 
-ghost use Rattle.std.specs.Prelude.{◌≡◌, ◌≤◌, ℕ, List, length, replicate};
+ghost use Rattle.std.specs.Prelude.{◌≡◌, ◌≤◌, ℕ, List, Some, length, replicate};
 ghost use Rattle.reader.specs.Outcome.{Attempted, Reading, answer_number, answer_value};
-ghost use Rattle.reader.specs.Vocabularies.{Knows};
+ghost use Rattle.reader.specs.Vocabularies.{Gives};
 ghost use Rattle.formulas.specs.declared.Expr.TheVariants as ex;
 ghost use Rattle.formulas.specs.declared.Node.TheVariants as nd;
 
@@ -21,23 +21,25 @@ use parser::parse;
 pub use refusals::Refusal;
 pub use vocabulary::{MAX_ACTIONS, MAX_FEATURES, Vocabulary};
 
-// Tries to read a text into tables that are all false. There are no names where a word list breaks its form.
-fn attempt(
+// Tries to read a text into tables that are all false. `names` is asked once the text is known to be short
+// enough; it gives none where a word list breaks its form.
+fn attempt<'w, F: FnOnce() -> Option<Vocabulary<'w>>>(
     text: &[u8],
-    names: Option<Vocabulary>,
+    names: F,
     exprs: &mut [Expr],
     nodes: &mut [Node],
 ) -> Result<usize, Refusal>
+    requires asked { F.IsAlwaysCallable names }
     requires exprs { exprs.old ≡ replicate (length exprs.old) ex.False }
     requires nodes { nodes.old ≡ replicate (length nodes.old) nd.False }
     requires room { (64 ≤ length exprs.old) × (64 ≤ length nodes.old) }
-    ensures { (actions features : List ℕ) → Knows actions features names.entry → Attempted text.now actions
-        features (length exprs.old) (length nodes.old) exprs.new nodes.new result }
+    ensures { (actions features : List ℕ) → Gives actions features (F.post names) → Attempted text.now
+        actions features (length exprs.old) (length nodes.old) exprs.new nodes.new result }
 {
     let Some(text) = Text::new(text) else {
         return Err(Refusal::LongText);
     };
-    let Some(names) = names else {
+    let Some(names) = names() else {
         return Err(Refusal::WordList);
     };
     // What is zero throughout needs no loop to fill the table.
@@ -55,14 +57,15 @@ fn clear(exprs: &mut [Expr], nodes: &mut [Node])
     nodes.fill(Node::False);
 }
 
-// Reads a text, or says what refuses it. There are no names where a word list breaks its form.
-fn read_or_clear(
+// Reads a text, or says what refuses it. `names` gives none where a word list breaks its form.
+fn read_or_clear<'w, F: FnOnce() -> Option<Vocabulary<'w>>>(
     text: &[u8],
-    names: Option<Vocabulary>,
+    names: F,
     exprs: &mut [Expr],
     nodes: &mut [Node],
 ) -> Result<usize, Refusal>
-    ensures { (actions features : List ℕ) → Knows actions features names.entry → Reading text.now actions
+    requires { F.IsAlwaysCallable names }
+    ensures { (actions features : List ℕ) → Gives actions features (F.post names) → Reading text.now actions
         features exprs.old nodes.old (answer_number result) (answer_value result) exprs.new nodes.new }
 {
     if exprs.len() < MAX_ENTRIES || nodes.len() < MAX_ENTRIES {
@@ -88,7 +91,7 @@ pub fn read(
     ensures { Reading text.now actions.now features.now exprs.old nodes.old (answer_number result)
         (answer_value result) exprs.new nodes.new }
 {
-    read_or_clear(text, Vocabulary::new(actions, features), exprs, nodes)
+    read_or_clear(text, || Vocabulary::new(actions, features), exprs, nodes)
 }
 
 /// Reads a formula text as `read` does, with the names of word lists that were checked before.
@@ -101,5 +104,8 @@ pub fn read_with(
     ensures { Reading text.now names.entry.actions.list.now names.entry.features.list.now exprs.old
         nodes.old (answer_number result) (answer_value result) exprs.new nodes.new }
 {
-    read_or_clear(text, Some(names), exprs, nodes)
+    let checked = ||
+        ensures { result ≡ Some names.entry }
+    { Some(names) };
+    read_or_clear(text, checked, exprs, nodes)
 }

@@ -11,7 +11,7 @@ use Rattle.reader.proofs.Attempts.{source, attempted}
 use Rattle.reader.proofs.attempt.Goals as goal
 
 pub returns-in_default : goal.returns-in_default
-returns-in_default c = λ actions features k. long_text c.in_default.ensures
+returns-in_default g c = λ actions features k. long_text c.in_default.ensures
 
 -- where there are no names, a list breaks its form
 unworded : (actions features : List ℕ) (names : Option Vocabulary) → ((v : Vocabulary) → names ≡ Some v → ⊥)
@@ -20,8 +20,8 @@ unworded actions features (Some v) none k = absurd (none v refl)
 unworded actions features None none k = k
 
 pub returns-in_default-names : goal.returns-in_default-names
-returns-in_default-names c = λ actions features k. no_words c.in-Some.ensures.0
-    (unworded actions features c.args.names c.in_default-names.not-Some k)
+returns-in_default-names g c = λ actions features k. no_words c.in-Some.ensures.0
+    (unworded actions features c.names.result c.in_default-names.not-Some (k _ c.names.ensures))
 
 -- a short text, and two lists in form
 fit : (text actions features : List ℕ) → length text ≤ 1024 → (w : Worded actions features) → Fit text
@@ -29,32 +29,32 @@ fit : (text actions features : List ℕ) → length text ≤ 1024 → (w : Worde
 fit text actions features le w = record { short = le; action_list = w.0.1; feature_list = w.1.1 }
 
 pub returns-in_err-count : goal.returns-in_err-count
-returns-in_err-count c = λ actions features k.
+returns-in_err-count g c = λ actions features k.
     let p = err_from_is_err_and c.from_residual.result c.from_residual.ensures.1 in
-    let w = (subst (Knows actions features) c.in-Some-names.is k).0 in
+    let w = (subst (Knows actions features) c.in-Some-names.is (k _ c.names.ensures)).0 in
     rw (p.1, p.2) (no_token w.0.0 w.1.0 _ (fit c.args.text.now actions features c.in-Some.ensures.0 w)
     (subst (λ bs. NoTokenAt bs 0 c.in_err-count.field-0.0.0) c.in-Some.ensures.1
     c.in_err-count.ensures.tokens))
 
 pub slice_bounds-table-end : goal.slice_bounds-table-end
-slice_bounds-table-end c = omega (arith, c.in_ok-count.ensures.tokens.0, c.tokens.ensures.length)
+slice_bounds-table-end g c = omega (arith, c.in_ok-count.ensures.tokens.0, c.tokens.ensures.length)
 
 pub slice_bounds-parse-end : goal.slice_bounds-parse-end
-slice_bounds-parse-end c = sym (length-take-le c.in_ok-count.count c.tokens.new.table
+slice_bounds-parse-end g c = sym (length-take-le c.in_ok-count.count c.tokens.new.table
     (omega (arith, c.in_ok-count.ensures.tokens.0, c.tokens.ensures.length)))
 
 pub returns : goal.returns
-returns c = λ actions features k.
+returns g c = λ actions features k.
     let text = c.args.text.now in
-    let v = subst (Knows actions features) c.in-Some-names.is k in
+    let v = subst (Knows actions features) c.in-Some-names.is (k _ c.names.ensures) in
     let w = v.0 in
-    let g = fit text actions features c.in-Some.ensures.0 w in
+    let fits = fit text actions features c.in-Some.ensures.0 w in
     let n = length c.args.exprs.now in
     let m = length c.args.nodes.now in
     let ts = toks (take c.in_ok-count.count c.tokens.new.table) in
     let lexed : TokensOf text 0 ts = subst (λ bs. TokensOf bs 0 ts) c.in-Some.ensures.1
     c.in_ok-count.ensures.tokens.1 in
-    let x = source text actions features n m w.0.0 w.1.0 g in
+    let x = source text actions features n m w.0.0 w.1.0 fits in
     let ready : Ready x c.in-Some-names.names c.args.exprs.now c.args.nodes.now = record {
       actions = subst (λ b. Lines b w.0.0) (sym v.1) (lines w.0.1);
       features = subst (λ b. Lines b w.1.0) (sym v.2) (lines w.1.1);
@@ -62,6 +62,6 @@ returns c = λ actions features k.
       nodes = c.requires.nodes;
     } in
     let end = c.len.ensures ∙ ap length c.in-Some.ensures.1 in
-    attempted text actions features n m w.0.0 w.1.0 g ts lexed c.requires.room c.parse.new.exprs
+    attempted text actions features n m w.0.0 w.1.0 fits ts lexed c.requires.room c.parse.new.exprs
     c.parse.new.nodes (subst (λ e. Parsed x e ts c.parse.new.exprs c.parse.new.nodes c.parse.result) end
     (c.parse.ensures x ready))

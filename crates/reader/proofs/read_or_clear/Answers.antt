@@ -11,7 +11,7 @@ use Rattle.reader.proofs.read_or_clear.Goals as goal
 use Rattle.reader.proofs.read_or_clear.Goals.{then-exprs-lt-MAX_ENTRIES-via-then-exprs-lt-MAX_ENTRIES, then-exprs-lt-MAX_ENTRIES-via-else-exprs-lt-MAX_ENTRIES+then-nodes-lt-MAX_ENTRIES}
 
 pub returns-then-exprs-lt-MAX_ENTRIES : goal.returns-then-exprs-lt-MAX_ENTRIES
-returns-then-exprs-lt-MAX_ENTRIES c = λ actions features k.
+returns-then-exprs-lt-MAX_ENTRIES g c = λ actions features k.
     elim c.then-exprs-lt-MAX_ENTRIES.branch [
       | then-exprs-lt-MAX_ENTRIES-via-then-exprs-lt-MAX_ENTRIES w ↦ short_table
           (inl w.if-exprs-lt-MAX_ENTRIES.true)
@@ -46,13 +46,13 @@ module _ (text actions features : List ℕ) (n m : ℕ) (es : List Expr) (ns : L
       (replicate n ex.False) x) (sym em) t)
 
 pub returns-else-is_err : goal.returns-else-is_err
-returns-else-is_err c = λ actions features k. after _ _ _ c.args.exprs.now c.clear.new.exprs
+returns-else-is_err g c = λ actions features k. after _ _ _ c.args.exprs.now c.clear.new.exprs
     c.args.nodes.now c.clear.new.nodes _ _ _ _ (omega arith) (omega arith) c.clear.ensures.exprs
     c.clear.ensures.nodes (read_whole _ _ _ _ _ _ _ c.attempt-answer.result
     (sym c.is_err.ensures.value ∙ c.if-is_err.false) (c.attempt-answer.ensures actions features k))
 
 pub returns-then-is_err : goal.returns-then-is_err
-returns-then-is_err c = λ actions features k.
+returns-then-is_err g c = λ actions features k.
     let le : length c.attempt-answer.new.exprs ≡ length c.clear.new.exprs = omega arith in
     let ln : length c.attempt-answer.new.nodes ≡ length c.clear.new.nodes = omega arith in
     after _ _ _ c.args.exprs.now c.clear.new.exprs c.args.nodes.now c.clear.new.nodes _ _ _ _ (omega arith)
