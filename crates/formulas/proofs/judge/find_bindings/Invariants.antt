@@ -1,9 +1,9 @@
 use Rattle.std.proofs.Common.{◌≡◌, ℕ, ◌<◌, length, None, slice_index_or}
 use Rattle.formulas.specs.Judge.{binding}
-use Rattle.formulas.proofs.judge.bindings.Given as goal
+use Rattle.formulas.proofs.judge.find_bindings.Given as goal
 
 abbrev pub invariant-loop-n : goal.invariant-loop-n
 invariant-loop-n l = record {
-  long : length l.found ≡ 64;
-  bound : (m : ℕ) → m < l.n → slice_index_or l.found m None ≡ binding l.nodes m;
+  long : length l.bindings ≡ 64;
+  bound : (m : ℕ) → m < l.n → slice_index_or l.bindings m None ≡ binding l.nodes m;
 }
