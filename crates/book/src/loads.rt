@@ -8,12 +8,9 @@ ghost use Rattle.book.specs.Contents.{family, contents};
 
 use crate::books::OpenBook;
 use crate::contents::Contents;
-use crate::records::{RECORD_BYTES, Record, read};
+use crate::records::{MAX_BYTES, RECORD_BYTES, Record, read};
 use crate::refusals::{Refusal, answer};
-use families::{ACCEPTED, MAX_PRODUCTS, MAX_TRANSITIONS};
-
-// As many as the records of a full book have.
-const MAX_BYTES: usize = (MAX_PRODUCTS + MAX_TRANSITIONS) * RECORD_BYTES;
+use families::ACCEPTED;
 
 impl Contents {
     // Takes out all but the first products and transitions.

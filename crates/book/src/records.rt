@@ -2,10 +2,13 @@
 ghost use Rattle.std.specs.Prelude.{◌≡◌};
 ghost use Rattle.book.specs.Records.{record_in};
 
-use families::Transition;
+use families::{MAX_PRODUCTS, MAX_TRANSITIONS, Transition};
 
 /// How many bytes a record has.
 pub const RECORD_BYTES: usize = 8;
+
+/// How many bytes a load has at most: as many as the records of a full book have.
+pub const MAX_BYTES: usize = (MAX_PRODUCTS + MAX_TRANSITIONS) * RECORD_BYTES;
 
 /// What a record asks for: a product by its configuration, or a transition.
 #[derive(Clone, Copy)]

@@ -2,6 +2,7 @@
 ghost use Rattle.std.specs.Prelude.{◌≡◌};
 ghost use Rattle.book.specs.Answers.{number_of, answer_of};
 
+pub use crate::records::{MAX_BYTES, RECORD_BYTES};
 use families::ACCEPTED;
 
 /// Why a call on a book refuses. `u8::from` gives the number of each, 1 to 9 in this order.
