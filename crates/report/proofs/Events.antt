@@ -127,19 +127,33 @@ module _ (a b c : Known) (whole rest : List ℕ) where
         ),
       )
 
-  -- A write that put nothing is the last one.
+  -- A write that put nothing leaves the rest as it was.
+  still_so_far : (es : List Event) (e : Event) → taken e ≡ [] → OnlyWrites (e ∷ []) → PutSoFar whole rest es
+      → PutSoFar whole rest (es ++ e ∷ [])
+  still_so_far es e none write (only, split) = (
+    only_then es (e ∷ []) only write,
+    split ∙ ap (λ l. l ++ rest) (sym (written_same es e none)),
+  )
+
+  -- One that failed, and after which others come.
+  pub put_again : (e : Error) → Through a b (PutSoFar whole rest) → Passes b c (write_failed e ∷ [])
+      → Through a c (PutSoFar whole rest)
+  put_again e (es, p, so_far) q = (
+    es ++ write_failed e ∷ [],
+    passes_then a b c es (write_failed e ∷ []) p q,
+    still_so_far es (write_failed e) refl (tt, tt) so_far,
+  )
+
+  -- One that is the last.
   put_last : (T : Type 0) (e : Error) (last : Event) → taken last ≡ [] → OnlyWrites (last ∷ [])
       → Unwritten e (last ∷ [])
       → Through a b (PutSoFar whole rest) → Passes b c (last ∷ []) → Through a c (Puts {T = T} whole (Err e))
-  put_last T e last none write why (es, p, (only, split)) q = (
-    es ++ last ∷ [],
-    passes_then a b c es (last ∷ []) p q,
-    (
-      only_then es (last ∷ []) only write,
-      (rest, split ∙ ap (λ l. l ++ rest) (sym (written_same es last none))),
-      unwritten_then e es (last ∷ []) why,
-    ),
-  )
+  put_last T e last none write why (es, p, so_far) q =
+      let (only, split) = still_so_far es last none write so_far in (
+        es ++ last ∷ [],
+        passes_then a b c es (last ∷ []) p q,
+        (only, (rest, split), unwritten_then e es (last ∷ []) why),
+      )
 
   pub put_failed : (T : Type 0) (e : Error) → Through a b (PutSoFar whole rest)
       → Passes b c (write_failed e ∷ []) → Through a c (Puts {T = T} whole (Err e))

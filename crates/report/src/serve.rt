@@ -16,6 +16,12 @@ use std::{fmt, io};
 // How many bytes are read at once.
 const BUFFER: usize = 4096;
 
+// How many more writes than there are bytes a signal may interrupt before that is an error.
+const RETRIES: usize = 64;
+
+// The words of a write that takes nothing.
+const UNWRITTEN: &str = "failed to write whole buffer";
+
 /// Why not all of the input was answered: a read failed, a write failed, memory is lacking for an answer, or
 /// no end came in as many reads as can be counted.
 #[derive(Debug, Drop)]
@@ -29,8 +35,7 @@ pub enum Stopped {
 impl fmt::Display for Stopped {
     fn fmt<W: fmt::Write>(&self, f: &mut fmt::Formatter<W>) -> fmt::Result {
         match self {
-            Stopped::Input(e) => write!(f, "input: {e}"),
-            Stopped::Output(e) => write!(f, "output: {e}"),
+            Stopped::Input(e) | Stopped::Output(e) => write!(f, "{e}"),
             Stopped::Memory(e) => write!(f, "{e}"),
             Stopped::Spent => f.write_str("the input has no end"),
         }
@@ -47,15 +52,17 @@ impl From<AllocError> for Stopped {
     }
 }
 
-// Writes all bytes, or a front of them.
+// Writes all bytes, or a front of them. A write that a signal interrupts is tried again.
 fn put<C: Console>(console: &mut C, bytes: &[u8]) -> io::Result<()>
     ensures { Through (C.known console.old) (C.known console.new) (Puts bytes.now result) }
 {
     let mut rest = bytes;
+    let mut retries = bytes.len().saturating_add(RETRIES);
     while !rest.is_empty() {
         match console.write(rest) {
-            Ok(0) => return Err(io::Error::from(ErrorKind::WriteZero)),
+            Ok(0) => return Err(io::Error::new(ErrorKind::WriteZero, UNWRITTEN)),
             Ok(count) => rest = &rest[count..],
+            Err(e) if retries > 0 && e.kind() == ErrorKind::Interrupted => retries -= 1,
             Err(e) => return Err(e),
         }
     }

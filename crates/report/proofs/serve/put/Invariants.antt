@@ -1,4 +1,4 @@
-use Rattle.std.proofs.Common.{length}
+use Rattle.std.proofs.Common.{◌+◌, length}
 use Rattle.report.specs.Events.{Through}
 use Rattle.report.proofs.Events.{PutSoFar}
 use Rattle.report.proofs.serve.put.Given as goal
@@ -10,4 +10,4 @@ invariant-loop-rest g l =
     (PutSoFar l.initial.rest l.rest)
 
 abbrev pub decreases-loop-rest : goal.decreases-loop-rest
-decreases-loop-rest g l = length l.rest
+decreases-loop-rest g l = length l.rest + l.retries
