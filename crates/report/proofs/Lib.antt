@@ -2,6 +2,7 @@ mod Begins
 mod Checks
 mod Conversations
 mod Events
+mod Inputs
 mod Judging
 mod Kept
 mod Listings

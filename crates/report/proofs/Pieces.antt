@@ -46,7 +46,7 @@ module _ (F : Family) (A O : List ℕ) where
       one_line u l (closes (next n) m rest text others more a t)
 
 -- What is kept of a line grows with the line.
-kept_push : (text : List ℕ) (b : ℕ) → kept (kept text ++ b ∷ []) ≡ kept (text ++ b ∷ [])
+pub kept_push : (text : List ℕ) (b : ℕ) → kept (kept text ++ b ∷ []) ≡ kept (text ++ b ∷ [])
 kept_push text b = go (cases_lt (length text) 1025)
   where
     go : (length text < 1025) ⊎ (1025 ≤ length text) → kept (kept text ++ b ∷ []) ≡ kept (text ++ b ∷ [])
@@ -54,12 +54,12 @@ kept_push text b = go (cases_lt (length text) 1025)
     go (inr long) = sym (none_kept (kept text) b (omega (arith, length-take 1025 text)))
         ∙ sym (take-append-le 1025 text (b ∷ []) long)
 
-unbroken_push : (text : List ℕ) (b : ℕ) → (b ≡ 10 → ⊥) → Unbroken text → Unbroken (text ++ b ∷ [])
+pub unbroken_push : (text : List ℕ) (b : ℕ) → (b ≡ 10 → ⊥) → Unbroken text → Unbroken (text ++ b ∷ [])
 unbroken_push [] b h u = (h, tt)
 unbroken_push (x ∷ xs) b h u = (u.0, unbroken_push xs b h u.1)
 
 -- Nothing is kept only of the empty line.
-none_seen : (text : List ℕ) → kept text ≡ [] → text ≡ []
+pub none_seen : (text : List ℕ) → kept text ≡ [] → text ≡ []
 none_seen [] e = refl
 none_seen (x ∷ xs) e = absurd (omega (arith, ap length e, length-take 1025 (x ∷ xs)))
 
@@ -81,7 +81,7 @@ takes_none t text w = record {
 }
 
 -- A byte within a line.
-takes_byte : (t u : Transcript) (b : ℕ) → (b ≡ 10 → ⊥) → vec_items u.line ≡ kept
+unfoldable pub takes_byte : (t u : Transcript) (b : ℕ) → (b ≡ 10 → ⊥) → vec_items u.line ≡ kept
     (vec_items t.line ++ b ∷ []) → u.number ≡ t.number → TakesAll t u (b ∷ []) []
 takes_byte t u b h grown same text w =
     let longer : List ℕ = text ++ b ∷ [] in
@@ -100,8 +100,8 @@ takes_byte t u b h grown same text w =
     }
 
 -- The end of a line.
-takes_line : (t u : Transcript) (bytes written : List ℕ) → vec_items u.line ≡ [] → u.number ≡ next t.number
-    → Tells t.session t.number (vec_items t.line) bytes → written ≡ bytes ++ 10 ∷ []
+unfoldable pub takes_line : (t u : Transcript) (bytes written : List ℕ) → vec_items u.line ≡ []
+    → u.number ≡ next t.number → Tells t.session t.number (vec_items t.line) bytes → written ≡ bytes ++ 10 ∷ []
     → TakesAll t u (10 ∷ []) written
 takes_line t u bytes written none step tells wrote text w = record {
   left = [];
@@ -137,7 +137,7 @@ takes_then t u v xs ys before after e first second text w =
     }
 
 -- The end of the input.
-closes_none : (t : Transcript) → vec_items t.line ≡ [] → ClosesAll t []
+unfoldable pub closes_none : (t : Transcript) → vec_items t.line ≡ [] → ClosesAll t []
 closes_none t none text w = record {
   lines = [];
   transcript = subst (λ (s : List ℕ). Transcribed (family_of t.session) (actions_of t.session)
@@ -145,7 +145,7 @@ closes_none t none text w = record {
   wrote = refl;
 }
 
-closes_line : (t : Transcript) (bytes written : List ℕ) → (vec_items t.line ≡ [] → ⊥)
+unfoldable pub closes_line : (t : Transcript) (bytes written : List ℕ) → (vec_items t.line ≡ [] → ⊥)
     → Tells t.session t.number (vec_items t.line) bytes
     → written ≡ bytes ++ 10 ∷ [] → ClosesAll t written
 closes_line t bytes written some tells wrote text w = record {

@@ -1,7 +1,8 @@
-// A session that takes its input byte by byte and answers each line as it ends.
-ghost use Rattle.std.specs.Prelude.{◌≡◌, ◌≢◌, ◌≤◌, [], ◌∷◌, ◌++◌, IfOk, None as none, Ok as ok};
+//! A session that takes its input byte by byte and answers each line as it ends.
+ghost use Rattle.std.specs.Prelude.{◌≡◌, ◌≢◌, ◌≤◌, [], ◌∷◌, ◌++◌, map, IfOk, None as none, Ok as ok};
 ghost use Rattle.std.specs.Prelude.{vec_len, vec_capacity, string_bytes};
-ghost use Rattle.report.specs.Transcripts.{kept, next, Told, Tells};
+ghost use Rattle.report.specs.Sessions.{family_of, actions_of, features_of};
+ghost use Rattle.report.specs.Transcripts.{kept, next, Told, Tells, Transcribed};
 
 use crate::session::Session;
 use crate::verdict::line;
@@ -11,8 +12,8 @@ use std::alloc::{AllocError, Global};
 // One byte more than a text may have, so that what is kept of a longer line is refused too.
 const KEPT: usize = LONGEST_TEXT + 1;
 
-// The line that is being read, as far as it is kept, and its number. Room for it is reserved, so no memory
-// is wanted while it grows. What a call leaves as it was, as the session, each call says.
+/// The line that is being read, as far as it is kept, and its number. Room for it is reserved, so no memory
+/// is wanted while it grows. What a call leaves as it was, as the session, each call says.
 #[derive(Drop)]
 pub struct Transcript {
     session: Session,
@@ -23,8 +24,8 @@ pub struct Transcript {
 }
 
 impl Transcript {
-    // Before the first byte of the input.
-    pub(crate) fn new(alloc: Global, session: Session) -> Result<Transcript, AllocError>
+    /// Before the first byte of the input.
+    pub fn new(alloc: Global, session: Session) -> Result<Transcript, AllocError>
         ensures { IfOk result (λ t. (t.session ≡ session) × (t.line.items ≡ []) × (t.number ≡ 1)) }
     {
         let line = Vec::with_capacity(alloc, KEPT)?;
@@ -50,8 +51,8 @@ impl Transcript {
         line(alloc, number, &verdict)
     }
 
-    // Takes the next byte of the input, and gives the answer if a line ends with it.
-    pub(crate) fn feed(&mut self, alloc: Global, byte: u8) -> Result<Option<String>, AllocError>
+    /// Takes the next byte of the input, and gives the answer if a line ends with it.
+    pub fn feed(&mut self, alloc: Global, byte: u8) -> Result<Option<String>, AllocError>
         ensures session { self.new.session ≡ self.old.session }
         ensures within { (byte ≢ 10) → (result ≡ ok none)
             × (self.new.line.items ≡ kept (self.old.line.items ++ byte ∷ []))
@@ -69,8 +70,8 @@ impl Transcript {
         Ok(None)
     }
 
-    // At the end of the input: the answer to a last line that lacks its end, unless it is empty.
-    pub(crate) fn finish(&mut self, alloc: Global) -> Result<Option<String>, AllocError>
+    /// At the end of the input: the answer to a last line that lacks its end, unless it is empty.
+    pub fn finish(&mut self, alloc: Global) -> Result<Option<String>, AllocError>
         ensures session { self.new.session ≡ self.old.session }
         ensures line { self.new.line.items ≡ [] }
         ensures empty { self.old.line.items ≡ [] →
@@ -84,4 +85,22 @@ impl Transcript {
         }
         Ok(Some(self.answer(alloc)?))
     }
+}
+
+/// The lines that are written for a whole input, each without its end.
+pub fn transcribe(alloc: Global, session: Session, input: &[u8]) -> Result<Vec<String>, AllocError>
+    ensures { IfOk result (λ v. Transcribed (family_of session) (actions_of session) (features_of session)
+        1 input.now (map string_bytes v.items)) }
+{
+    let mut transcript = Transcript::new(alloc, session)?;
+    let mut lines = Vec::new(alloc);
+    for byte in input {
+        if let Some(line) = transcript.feed(alloc, *byte)? {
+            lines.push(line)?;
+        }
+    }
+    if let Some(line) = transcript.finish(alloc)? {
+        lines.push(line)?;
+    }
+    Ok(lines)
 }
