@@ -5,8 +5,9 @@ pub mod recorder;
 
 use report::console::Streams;
 use report::listing::own_steps;
-use report::serve::serve;
+use report::serve::{Stopped, serve};
 use report::session::Session;
+use report::transcript::transcribe;
 use std::alloc::Global;
 use std::io;
 use std::io::{ErrorKind, Read, Write};
@@ -41,17 +42,23 @@ impl Read for Pieces<'_> {
     }
 }
 
-/// Takes at most seven bytes at once, and fails when `room` bytes were taken.
+/// Takes at most seven bytes at once, fails when `room` bytes were taken, and before that is interrupted at
+/// every second try.
 #[derive(Drop)]
 pub struct Room {
     taken: Vec<u8>,
     room: usize,
+    interrupts: bool,
 }
 
 impl Write for Room {
     fn write(&mut self, buf: &[u8]) -> io::Result<usize> {
         if self.room == 0 {
             return Err(io::Error::from(ErrorKind::StorageFull));
+        }
+        self.interrupts = !self.interrupts;
+        if !self.interrupts {
+            return Err(io::Error::from(ErrorKind::Interrupted));
         }
         let count = buf.len().min(7).min(self.room);
         self.taken.extend_from_slice(&buf[..count])?;
@@ -82,6 +89,7 @@ fn served(alloc: Global, most: usize, pieces: usize, room: usize) -> io::Result<
     let writer = Room {
         taken: Vec::new(alloc),
         room,
+        interrupts: true,
     };
     let mut console = Streams { reader, writer };
     let ended = serve(alloc, session(alloc)?, &mut console).is_ok();
@@ -119,6 +127,7 @@ mod tests {
             alloc: rt.alloc(),
             rest: INPUT,
             most: 3,
+            interruptions: 0,
             moments: Some(Vec::new(rt.alloc())),
         };
         assert!(rt; serve(rt.alloc(), session(rt.alloc())?, &mut console).is_ok());
@@ -131,9 +140,73 @@ mod tests {
                     ended = ended.saturating_add(ends_in(bytes));
                 }
                 Moment::Wrote(bytes) => answered = answered.saturating_add(ends_in(bytes)),
+                Moment::Interrupted(_) => {}
             }
         }
         assert!(rt; answered == 3 && ended == 2);
+        Ok(())
+    }
+
+    // A write that is interrupted is tried again, and the conversation goes on.
+    #[test]
+    fn interrupted_write(rt: HostRuntime) -> io::Result<()> {
+        let mut console = Recorder {
+            alloc: rt.alloc(),
+            rest: INPUT,
+            most: 3,
+            interruptions: 1,
+            moments: Some(Vec::new(rt.alloc())),
+        };
+        assert!(rt; serve(rt.alloc(), session(rt.alloc())?, &mut console).is_ok());
+        let Recorder { moments, .. } = console;
+        let mut written = Vec::new(rt.alloc());
+        let mut interrupted = 0usize;
+        for moment in &moments.unwrap_or(Vec::new(rt.alloc())) {
+            match moment {
+                Moment::Read(_) => {}
+                Moment::Wrote(bytes) => written.extend_from_slice(bytes)?,
+                Moment::Interrupted(_) => interrupted = interrupted.saturating_add(1),
+            }
+        }
+        assert!(rt; interrupted == 1 && written.as_slice() == OUTPUT);
+        Ok(())
+    }
+
+    // Interruptions without end are an error.
+    #[test]
+    fn interrupted_writes(rt: HostRuntime) -> io::Result<()> {
+        let mut console = Recorder {
+            alloc: rt.alloc(),
+            rest: INPUT,
+            most: 3,
+            interruptions: usize::MAX,
+            moments: None,
+        };
+        let ended = serve(rt.alloc(), session(rt.alloc())?, &mut console);
+        assert!(rt; matches!(ended, Err(Stopped::Output(e)) if e.kind() == ErrorKind::Interrupted));
+        Ok(())
+    }
+
+    // The lines of a whole input.
+    #[test]
+    fn whole_input(rt: HostRuntime) -> io::Result<()> {
+        let mut written = String::new(rt.alloc());
+        for line in &transcribe(rt.alloc(), session(rt.alloc())?, INPUT)? {
+            written.push_str(line)?;
+            written.push_str("\n")?;
+        }
+        assert!(rt; written.as_bytes() == OUTPUT);
+        Ok(())
+    }
+
+    // What is written on standard error: the words of the error that ended the conversation.
+    #[test]
+    fn words(rt: HostRuntime) -> io::Result<()> {
+        let e = io::Error::from_raw_os_error(32);
+        let (input, output) = (Stopped::Input(e), Stopped::Output(e));
+        let text = format!(in rt.alloc(); "{e}")?;
+        let words = format!(in rt.alloc(); "{input} {output}")?;
+        assert!(rt; words == format!(in rt.alloc(); "{text} {text}")?);
         Ok(())
     }
 

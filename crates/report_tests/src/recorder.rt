@@ -7,21 +7,24 @@ ghost use Rattle.report_tests.specs.Moments.{event_of, events_of};
 use report::console::Console;
 use std::alloc::{AllocError, Global};
 use std::io;
+use std::io::ErrorKind;
 
-/// A read or a write that went well, with its bytes.
+/// A read or a write that went well, with its bytes, or a write that was interrupted.
 #[derive(Drop)]
 pub enum Moment {
     Read(Vec<u8>),
     Wrote(Vec<u8>),
+    Interrupted(io::Error),
 }
 
-/// Gives its bytes in pieces of at most `most`, and takes all that is written. Without memory for a moment
-/// all are forgotten.
+/// Gives its bytes in pieces of at most `most`, and takes all that is written once so many writes were
+/// interrupted. Without memory for a moment all are forgotten.
 #[derive(Drop)]
 pub struct Recorder<'a> {
     pub alloc: Global,
     pub rest: &'a [u8],
     pub most: usize,
+    pub interruptions: usize,
     pub moments: Option<Vec<Moment>>,
 }
 
@@ -60,6 +63,12 @@ impl Console for Recorder<'_> {
     }
 
     fn write(&mut self, bytes: &[u8]) -> io::Result<usize> {
+        if self.interruptions > 0 {
+            self.interruptions -= 1;
+            let e = io::Error::from(ErrorKind::Interrupted);
+            self.moments = kept(self.moments.take(), Ok(Moment::Interrupted(e)));
+            return Err(e);
+        }
         let moment = Vec::from_slice(self.alloc, bytes).map(Moment::Wrote);
         self.moments = kept(self.moments.take(), moment);
         Ok(bytes.len())
