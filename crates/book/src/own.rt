@@ -2,7 +2,8 @@
 ghost use Rattle.std.specs.Prelude.{◌≡◌, ℕ, ◌<◌, ◌↔◌, IfOk, IsTrue};
 ghost use Rattle.families.specs.Families.{Owns, count, config};
 ghost use Rattle.book.specs.Contents.{closed_contents};
-ghost use Rattle.book.specs.Own.{ends, ExactlyOwn, Listed, ListsOf};
+ghost use Rattle.book.specs.Lists.{is_held};
+ghost use Rattle.book.specs.Own.{ends, same_ends, ExactlyOwn, Listed, ListsOf};
 
 use crate::books::ClosedBook;
 use families::Transition;
@@ -37,6 +38,14 @@ fn owned(transitions: &[Transition], configuration: u16, own: OwnTransition) -> 
     transitions.iter().any(|t| OwnTransition::from(*t) == own && t.met_by(configuration))
 }
 
+// Whether an own transition is in a list. Not by `contains`, which compares four at a time: that takes longer
+// on a list in which most differ in the first field.
+fn holds(list: &[OwnTransition], own: OwnTransition) -> bool
+    ensures { result ≡ is_held same_ends own list.now }
+{
+    list.iter().any(|held| *held == own)
+}
+
 fn list_all(
     alloc: Global,
     transitions: &[Transition],
@@ -47,7 +56,7 @@ fn list_all(
     let mut list = Vec::new(alloc);
     for t in transitions {
         let own = OwnTransition::from(*t);
-        if t.met_by(configuration) && !list.contains(&own) {
+        if t.met_by(configuration) && !holds(&list, own) {
             list.push(own)?;
         }
     }

@@ -81,7 +81,9 @@ fn answer_line<C: Console>(console: &mut C, line: String) -> Result<(), Stopped>
     }
 }
 
-// Takes one byte, and answers the line that ends with it.
+// Takes one byte, and answers the line that ends with it. It is made part of the loop over a piece, since
+// an answer handed on for each byte costs more than the byte.
+#[inline(always)]
 fn answer_byte<C: Console>(
     alloc: Global,
     transcript: &mut Transcript,

@@ -5,8 +5,8 @@ use Rattle.families.specs.declared.Transition.{Transition}
 use Rattle.book.specs.declared.own.OwnTransition.{OwnTransition}
 use Rattle.book.specs.Lists.{is_held}
 use Rattle.book.specs.Own.{Listed, Lists, none, more, listed, repeated, unmet, ends, same_ends}
-use Rattle.book.proofs.own.list_all.Goals.{then-met_by+then-not-contains+in_ok-push, else-met_by}
-use Rattle.book.proofs.own.list_all.Goals.{else-met_by-via-then-met_by+else-not-contains}
+use Rattle.book.proofs.own.list_all.Goals.{then-met_by+then-not-holds+in_ok-push, else-met_by}
+use Rattle.book.proofs.own.list_all.Goals.{else-met_by-via-then-met_by+else-not-holds}
 use Rattle.book.proofs.own.list_all.Goals.{else-met_by-via-else-met_by}
 use Rattle.book.proofs.own.list_all.Goals as goal
 
@@ -17,7 +17,7 @@ pub loop-t-init : goal.loop-t-init
 loop-t-init c =
     subst (λ (l : List OwnTransition). Listed c.args.configuration [] l) (sym c.new-list.ensures.items) none
 
--- the answer of `contains`, of the ends of a transition
+-- the answer of `holds`, of the ends of a transition
 seen : (x : Transition) (own : OwnTransition) (os ys : List OwnTransition) (r b : Bool)
     → own ≡ ends x → ys ≡ os → r ≡ is_held same_ends own ys → r ≡ b → is_held same_ends (ends x) os ≡ b
 seen x own os ys r b p q e h =
@@ -31,19 +31,19 @@ loop-t-preserved c =
     let same : c.from-own.result ≡ ends x = c.from-own.ensures in
     let lists : Lists c.args.configuration x os (vec_items c.if-met_by.list) =
     elim c.if-met_by.branch [
-      | then-met_by+then-not-contains+in_ok-push w ↦
+      | then-met_by+then-not-holds+in_ok-push w ↦
           subst (λ (l : List OwnTransition). Lists c.args.configuration x os l)
           (ap (λ (o : OwnTransition). os ++ o ∷ []) (sym same) ∙ sym w.in_ok-push.ensures.items
           ∙ ap vec_items (sym w.list-is))
           (listed (w.if-met_by.ensures.0 refl)
-          (seen x _ os _ _ false same w.deref.ensures.value w.contains.ensures.value w.if-not-contains.true))
+          (seen x _ os _ _ false same w.deref.ensures.value w.holds.ensures w.if-not-holds.true))
       | else-met_by w ↦
           subst (λ (l : List OwnTransition). Lists c.args.configuration x os l) (ap vec_items (sym w.list-is))
           (elim w.else-met_by.branch [
-            | else-met_by-via-then-met_by+else-not-contains w' ↦
+            | else-met_by-via-then-met_by+else-not-holds w' ↦
                 repeated (w'.if-met_by.ensures.0 refl)
                 (seen x _ os _ _ true same
-                w'.deref.ensures.value w'.contains.ensures.value w'.if-not-contains.false)
+                w'.deref.ensures.value w'.holds.ensures w'.if-not-holds.false)
             | else-met_by-via-else-met_by w' ↦ unmet (λ m. (let e = w'.if-met_by.ensures.1 m in absurd (cc)))
           ])
     ] in
