@@ -1,6 +1,5 @@
 -- The events that a record of moments stands for.
-use Rattle.std.specs.Prelude.{List, map, Option, vec_items}
-use Rattle.std.specs.Option.{option_map}
+use Rattle.std.specs.Prelude.{List, map, vec_items}
 use Rattle.report.specs.Events.{Event, read, wrote, write_failed}
 use Rattle.report_tests.specs.declared.recorder.Moment.{Moment}
 use Rattle.report_tests.specs.declared.recorder.Moment.TheVariants.{Read, Wrote, Interrupted}
