@@ -1,5 +1,5 @@
 // The check of a formula against a family.
-ghost use Rattle.std.specs.Prelude.{◌≡◌, ℕ, ◌+◌, ◌*◌, ◌<◌, ◌≤◌, Bool, length, IsOk, IfOk, IfErr, slice_get};
+ghost use Rattle.std.specs.Prelude.{◌≡◌, ℕ, ◌+◌, ◌*◌, ◌<◌, ◌≤◌, Bool, length, IsOk, IfErr, slice_get};
 ghost use Rattle.formulas.specs.Tables.{last};
 ghost use Rattle.semantics.specs.Entries.{Filled, no_pairs};
 ghost use Rattle.semantics.specs.Evaluation.{OnlyProducts};
@@ -61,26 +61,26 @@ impl FamilyView<'_> {
         count
     }
 
-    // The tables, if they are sound, the kind has enough places, and there is a cell for each entry and state.
-    fn admitted<'t, K: Kind>(
+    // That the kind has enough places, and that there is a cell for each entry and state.
+    fn admitted<K: Kind>(
         &self,
-        exprs: &'t [Expr],
-        nodes: &'t [Node],
+        tables: &SoundTables<'_>,
         kind: &K,
         cells: &[K::Set],
-    ) -> Result<SoundTables<'t>, Refusal>
-        ensures refused { IfErr result (λ refusal. (whole : ℕ → Bool) → Answered (family_of self.now) exprs.now nodes.now K.places (length cells.now) whole (refusal_pair refusal).0 (refusal_pair refusal).1) }
-        ensures same { IfOk result (λ t. (t.exprs.now ≡ exprs.now) × (t.nodes.now ≡ nodes.now)) }
-        ensures fits { IsOk result → (length self.now.products.now ≤ K.places) × (length nodes.now * self.now.states ≤ length cells.now) }
+    ) -> Result<(), Refusal>
+        ensures refused { IfErr result (λ refusal. (whole : ℕ → Bool) → Answered (family_of self.now)
+            tables.now.exprs.now tables.now.nodes.now K.places (length cells.now) whole (refusal_pair refusal).0
+            (refusal_pair refusal).1) }
+        ensures fits { IsOk result → (length self.now.products.now ≤ K.places)
+            × (length tables.now.nodes.now * self.now.states ≤ length cells.now) }
     {
-        let tables = judge(exprs, nodes)?;
         if self.products.len() > kind.places_count() {
             return Err(Refusal::TooManyProducts);
         }
-        if cells.len() < nodes.len() * self.states {
+        if cells.len() < tables.nodes.len() * self.states {
             return Err(Refusal::TooFewCells);
         }
-        Ok(tables)
+        Ok(())
     }
 
     // Gathers the sets, and fills the rows of all entries.
@@ -125,11 +125,31 @@ impl FamilyView<'_> {
             → InRow (K.holds kind.new) self.now.states cells.new n }
         ensures kept { SetsKept K.holds K.means kind.old kind.new }
     {
-        match self.admitted(exprs, nodes, kind, cells) {
+        match judge(exprs, nodes) {
+            Err(unsound) => Refusal::from(unsound).into(),
+            Ok(tables) => self.check_sound(&tables, kind, cells),
+        }
+    }
+
+    /// Checks a formula whose tables were judged, so that they are not judged again: it is refused by 17 and 18
+    /// alone, and promises what `check` does of the tables that were judged. A closed book hands on to it too.
+    pub fn check_sound<K: Kind>(
+        &self,
+        tables: &SoundTables<'_>,
+        kind: &mut K,
+        cells: &mut [K::Set],
+    ) -> (u8, usize)
+        ensures law { CheckLaw K.means K.places (family_of self.now) tables.now.exprs.now tables.now.nodes.now kind.old
+            cells.old kind.new cells.new result.0 result.1 }
+        ensures held { result.0 ≡ 0 → (n : ℕ) → n < length tables.now.nodes.now
+            → InRow (K.holds kind.new) self.now.states cells.new n }
+        ensures kept { SetsKept K.holds K.means kind.old kind.new }
+    {
+        match self.admitted(tables, kind, cells) {
             Err(refusal) => refusal.into(),
-            Ok(tables) => {
-                self.fill(&tables, kind, cells);
-                let whole = cells[(nodes.len() - 1) * self.states];
+            Ok(()) => {
+                self.fill(tables, kind, cells);
+                let whole = cells[(tables.nodes.len() - 1) * self.states];
                 (ACCEPTED, self.count_in(whole, kind))
             }
         }

@@ -5,6 +5,7 @@
 mod tests {
     use checker::FamilyView;
     use families::Transition;
+    use formulas::judge::judge;
     use formulas::{Expr, Node};
     use product_sets::{Kind, Mask, Range, Single};
     use std::process::Abort;
@@ -310,6 +311,28 @@ mod tests {
         gives(&rt, &family, &HAND_FILLS, &[true, false], 1, &mut Single);
         gives(&rt, &family, &NO_EARLY_CUT, &[false, false], 0, &mut Single);
         gives(&rt, &family, &CUTS_AGAIN, &[true, false], 1, &mut Single);
+    }
+
+    // Tables that were judged before are checked alike.
+    #[test]
+    fn judged_before(rt: HostRuntime) {
+        let family = FamilyView {
+            states: 4,
+            products: &PRODUCTS,
+            transitions: &TRANSITIONS,
+        };
+        match judge(&EXPRS, &HAND_FILLS) {
+            Ok(tables) => {
+                let mut kind = Mask;
+                let mut cells = [kind.none(); 8];
+                let answer = family.check_sound(&tables, &mut kind, &mut cells);
+                assert_eq!(rt; answer, (0, 2));
+                assert!(rt;
+                    !kind.has(cells[4], 0) && kind.has(cells[4], 1) && kind.has(cells[4], 2)
+                );
+            }
+            Err(_) => assert!(rt; false),
+        }
     }
 
     #[test]
