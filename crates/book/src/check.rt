@@ -8,6 +8,7 @@ ghost use Rattle.book.specs.Contents.{closed_contents};
 
 use crate::books::ClosedBook;
 use checker::FamilyView;
+use formulas::judge::SoundTables;
 use formulas::{Expr, Node};
 use product_sets::Kind;
 
@@ -41,5 +42,22 @@ impl ClosedBook {
         ensures kept { SetsKept K.holds K.means kind.old kind.new }
     {
         self.view().check(exprs, nodes, kind, cells)
+    }
+
+    /// Checks a formula whose tables were judged, so that they are not judged again: it is refused by 17 and 18
+    /// alone. It too is what the view promises.
+    pub fn check_sound<K: Kind>(
+        &self,
+        tables: &SoundTables<'_>,
+        kind: &mut K,
+        cells: &mut [K::Set],
+    ) -> (u8, usize)
+        ensures law { CheckLaw K.means K.places (closed_contents self.now) tables.now.exprs.now tables.now.nodes.now
+            kind.old cells.old kind.new cells.new result.0 result.1 }
+        ensures held { result.0 ≡ 0 → (n : ℕ) → n < length tables.now.nodes.now
+            → InRow (K.holds kind.new) (closed_contents self.now).states cells.new n }
+        ensures kept { SetsKept K.holds K.means kind.old kind.new }
+    {
+        self.view().check_sound(tables, kind, cells)
     }
 }
