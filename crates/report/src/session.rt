@@ -7,7 +7,7 @@ use crate::digits::Digits;
 use crate::verdict::Refused;
 use book::books::{ClosedBook, OpenBook};
 use families::{ACCEPTED, MAX_STATES};
-use formulas::judge::{MAX_ENTRIES, judge};
+use formulas::judge::{MAX_ENTRIES, SoundTables, judge};
 use formulas::{Expr, Node};
 use product_sets::{Kind, Mask};
 use reader::{MAX_ACTIONS, MAX_FEATURES, Vocabulary, read_with};
@@ -102,40 +102,43 @@ impl Session {
         let mut exprs = [Expr::False; MAX_ENTRIES];
         let mut nodes = [Node::False; MAX_ENTRIES];
         let count = read_with(text, self.names(), &mut exprs, &mut nodes)?;
-        let nodes = &nodes[..count];
-        // The check would refuse unsound tables by the same number, but needs cells to be called.
-        if let Err(unsound) = judge(&exprs, nodes) {
-            let (number, value) = unsound.into();
-            return Err(Refused { number, value });
+        match judge(&exprs, &nodes[..count]) {
+            Err(unsound) => {
+                let (number, value) = unsound.into();
+                Err(Refused { number, value })
+            }
+            Ok(tables) => self.checked_by_mask(&tables),
         }
-        self.checked_by_mask(&exprs, nodes)
     }
 
-    // Checks tables with the mask. The cells are made here, since what is refused before needs none.
-    fn checked_by_mask(&self, exprs: &[Expr], nodes: &[Node]) -> Result<Digits, Refused>
-        ensures { Checked (family_of self.now) exprs.now nodes.now (formula_at exprs.now nodes.now (last nodes.now)) (outcome_of result) }
+    // Checks judged tables with the mask. The cells are made here, since what is refused before needs none.
+    fn checked_by_mask(&self, tables: &SoundTables<'_>) -> Result<Digits, Refused>
+        ensures { Checked (family_of self.now) tables.now.exprs.now tables.now.nodes.now
+            (formula_at tables.now.exprs.now tables.now.nodes.now (last tables.now.nodes.now))
+            (outcome_of result) }
     {
         let mut kind = Mask;
         let mut cells = [kind.none(); CELLS];
-        self.checked(exprs, nodes, &mut kind, &mut cells)
+        self.checked(tables, &mut kind, &mut cells)
     }
 
-    // Checks tables with a kind of 64 places, in cells that suffice for all tables.
+    // Checks judged tables with a kind of 64 places, in cells that suffice for all tables.
     fn checked<K: Kind>(
         &self,
-        exprs: &[Expr],
-        nodes: &[Node],
+        tables: &SoundTables<'_>,
         kind: &mut K,
         cells: &mut [K::Set],
     ) -> Result<Digits, Refused>
         requires { (K.places ≡ 64) × (4096 ≤ length cells.old) }
-        ensures { Checked (family_of self.now) exprs.now nodes.now (formula_at exprs.now nodes.now (last nodes.now)) (outcome_of result) }
+        ensures { Checked (family_of self.now) tables.now.exprs.now tables.now.nodes.now
+            (formula_at tables.now.exprs.now tables.now.nodes.now (last tables.now.nodes.now))
+            (outcome_of result) }
     {
-        let (number, value) = self.book.check(exprs, nodes, kind, cells);
+        let (number, value) = self.book.check_sound(tables, kind, cells);
         if number != ACCEPTED {
             return Err(Refused { number, value });
         }
-        let whole = cells[(nodes.len() - 1) * self.book.states()];
+        let whole = cells[(tables.nodes.len() - 1) * self.book.states()];
         Ok(Digits::of(kind, whole, self.book.products().len()))
     }
 }
