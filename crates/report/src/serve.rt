@@ -81,25 +81,6 @@ fn answer_line<C: Console>(console: &mut C, line: String) -> Result<(), Stopped>
     }
 }
 
-// Takes one byte, and answers the line that ends with it. It is made part of the loop over a piece, since
-// an answer handed on for each byte costs more than the byte.
-#[inline(always)]
-fn answer_byte<C: Console>(
-    alloc: Global,
-    transcript: &mut Transcript,
-    console: &mut C,
-    byte: u8,
-) -> Result<(), Stopped>
-    ensures session { transcript.new.session ≡ transcript.old.session }
-    ensures answer { Through (C.known console.old) (C.known console.new)
-        (Feeds transcript.old transcript.new (byte ∷ []) result) }
-{
-    match transcript.feed(alloc, byte)? {
-        None => Ok(()),
-        Some(line) => answer_line(console, line),
-    }
-}
-
 // Answers the lines that end within a piece of the input.
 fn answer_piece<C: Console>(
     alloc: Global,
@@ -112,7 +93,10 @@ fn answer_piece<C: Console>(
         (Feeds transcript.old transcript.new piece.now result) }
 {
     for byte in piece {
-        answer_byte(alloc, transcript, console, *byte)?;
+        match transcript.feed(alloc, *byte)? {
+            None => {}
+            Some(line) => answer_line(console, line)?,
+        }
     }
     Ok(())
 }
